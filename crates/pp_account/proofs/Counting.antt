@@ -18,6 +18,7 @@ use Rattle.pp_model.specs.declared.profile.Sample.{Sample}
 use Rattle.pp_model.specs.declared.profile.Profile.{Profile}
 use Rattle.pp_model.specs.declared.verdicts.Slot.{Slot}
 use Rattle.pp_model.specs.declared.verdicts.Slot.TheVariants as slots
+use Rattle.pp_model.specs.declared.presentation.Presentation.{Presentation}
 use Rattle.pp_model.specs.Finders.{Finders}
 use Rattle.pp_model.specs.FrameTexts.{Written}
 use Rattle.pp_model.specs.Values.{no_sample}
@@ -38,29 +39,29 @@ use Rattle.pp_account.specs.First.{first_filter, is_filter}
 use Rattle.pp_account.specs.Portions.{portion_of, portions_of, is_bare}
 use Rattle.pp_account.proofs.Firsts.{left_or_dropped}
 
-module _ (config : Config) (column : Option ℕ) where
+module _ (presentation : Presentation) (column : Option ℕ) where
   abbrev value : Sample → ℤ
-  value s = selected column config.presentation.divide_by s
+  value s = selected column presentation.divide_by s
 
   -- one sample more
-  portion_push : (ss : List Sample) (s : Sample) → length ss + 1 < 2 ^ 64 → nat_abs (selected_all column config.presentation.divide_by ss) + nat_abs (value s) < 2 ^ 63
-      → portion_of config.presentation column (ss ++ s ∷ []) ≡ portion_plus (portion_of config.presentation column ss) (value s)
+  portion_push : (ss : List Sample) (s : Sample) → length ss + 1 < 2 ^ 64 → nat_abs (selected_all column presentation.divide_by ss) + nat_abs (value s) < 2 ^ 63
+      → portion_of presentation column (ss ++ s ∷ []) ≡ portion_plus (portion_of presentation column ss) (value s)
   portion_push ss s few fits = λ i. record {
     count = (length-append ss (s ∷ []) ∙ sym (mod-eq_of_lt few)) i;
-    value = (selected-append column config.presentation.divide_by ss s
-        ∙ sym (int_wrap_fits w64 (selected_all column config.presentation.divide_by ss +ℤ value s)
-        (fits_signed_from_abs w64 (selected_all column config.presentation.divide_by ss +ℤ value s) (omega (arith, fits, triangle (selected_all column config.presentation.divide_by ss) (value s)))))) i;
+    value = (selected-append column presentation.divide_by ss s
+        ∙ sym (int_wrap_fits w64 (selected_all column presentation.divide_by ss +ℤ value s)
+        (fits_signed_from_abs w64 (selected_all column presentation.divide_by ss +ℤ value s) (omega (arith, fits, triangle (selected_all column presentation.divide_by ss) (value s)))))) i;
   }
 
-  module _ (ss : List Sample) (s : Sample) (few : length ss + 1 < 2 ^ 64) (fits : absolute_all column config.presentation.divide_by ss + nat_abs (value s) < 2 ^ 63) where
+  module _ (ss : List Sample) (s : Sample) (few : length ss + 1 < 2 ^ 64) (fits : absolute_all column presentation.divide_by ss + nat_abs (value s) < 2 ^ 63) where
     -- of those that pass a test
-    pub portion_more : (t : Sample → Bool) → portion_of config.presentation column (filter t (ss ++ s ∷ [])) ≡ portion_plus_if (t s) (portion_of config.presentation column (filter t ss)) (value s)
+    pub portion_more : (t : Sample → Bool) → portion_of presentation column (filter t (ss ++ s ∷ [])) ≡ portion_plus_if (t s) (portion_of presentation column (filter t ss)) (value s)
     portion_more t =
-        ap (portion_of config.presentation column) (filter-append t ss (s ∷ []))
-        ∙ elim (t s) as (λ b. portion_of config.presentation column (filter t ss ++ cond b (s ∷ []) []) ≡ portion_plus_if b (portion_of config.presentation column (filter t ss)) (value s)) [
+        ap (portion_of presentation column) (filter-append t ss (s ∷ []))
+        ∙ elim (t s) as (λ b. portion_of presentation column (filter t ss ++ cond b (s ∷ []) []) ≡ portion_plus_if b (portion_of presentation column (filter t ss)) (value s)) [
           | true ↦ portion_push (filter t ss) s (omega (arith, few, count_within))
-              (omega (arith, fits, selected_within column config.presentation.divide_by (filter t ss), filter_size (λ x. nat_abs (value x)) t ss))
-          | false ↦ ap (portion_of config.presentation column) (append-nil (filter t ss))
+              (omega (arith, fits, selected_within column presentation.divide_by (filter t ss), filter_size (λ x. nat_abs (value x)) t ss))
+          | false ↦ ap (portion_of presentation column) (append-nil (filter t ss))
         ] where
           count_within : length (filter t ss) ≤ length ss
           count_within = shorter ss where
@@ -71,8 +72,8 @@ module _ (config : Config) (column : Option ℕ) where
               | false ↦ omega (arith, shorter xs)
             ]
 
-    pub all_more : portion_of config.presentation column (ss ++ s ∷ []) ≡ portion_plus (portion_of config.presentation column ss) (value s)
-    all_more = portion_push ss s few (omega (arith, fits, selected_within column config.presentation.divide_by ss))
+    pub all_more : portion_of presentation column (ss ++ s ∷ []) ≡ portion_plus (portion_of presentation column ss) (value s)
+    all_more = portion_push ss s few (omega (arith, fits, selected_within column presentation.divide_by ss))
 
 -- where a sample ends, by its first filter
 ended : (first : Option Slot) (bare : Bool) (v : ℤ) (d : PortionsOf)
@@ -109,7 +110,7 @@ module _ (p : Profile) (f : Finders) (config : Config) (column : Option ℕ) whe
   portions_push ss s few fits =
       let at = λ (slot : Slot). portion_more config column ss s few fits (λ x. is_filter slot (first_filter p f config.filtering x)) in
       let left = portion_more config column ss s few fits (λ x. is_some (filtered_stack p f config.filtering x))
-      ∙ ap (λ b. portion_plus_if b (portions_of p f config column ss).left (selected column config.presentation.divide_by s)) (left_or_dropped p f config s) in
+      ∙ ap (λ b. portion_plus_if b (portions_of p f config column ss).left (selected column config.presentation.divide_by s)) (left_or_dropped p f config.filtering s) in
       (λ i. record {
         loaded = all_more config column ss s few fits i;
         ignore = at slots.Ignore i;

@@ -97,12 +97,12 @@ module _ (p : Profile) (f : Finders) (config : Config) (column : Option ℕ) whe
 
   -- of those that they leave all is seen
   pub kept_seen : (kept : List ℕ) → kept ≡ filtered_from p f config.filtering 0 p.sample → seen_samples p f config column (samples_at p kept) ≡ seen_samples p f config column p.sample
-  kept_seen kept is = ap (seen_samples p f config column) (kept_samples p f config kept is) ∙ seen_passing p.sample
+  kept_seen kept is = ap (seen_samples p f config column) (kept_samples p f config.filtering kept is) ∙ seen_passing p.sample
 
   -- the base's samples among those that are kept
   pub base_kept : (kept : List ℕ) → kept ≡ filtered_from p f config.filtering 0 p.sample
       → samples_at p (filter (is_base_number p) kept) ≡ filtered_samples p f config.filtering (base_samples p)
-  base_kept kept is = base_chosen p kept ∙ ap (filter (is_base p)) (kept_samples p f config kept is) ∙ filter_swap (is_base p) passes p.sample
+  base_kept kept is = base_chosen p kept ∙ ap (filter (is_base p)) (kept_samples p f config.filtering kept is) ∙ filter_swap (is_base p) passes p.sample
 
   pub base_seen : (kept : List ℕ) → kept ≡ filtered_from p f config.filtering 0 p.sample
       → seen_samples p f config column (samples_at p (filter (is_base_number p) kept)) ≡ seen_samples p f config column (base_samples p)

@@ -106,7 +106,7 @@ module _ (l : Loaded) (v : Verdicts) (config : Config) (column : Option ℕ) (na
   pub none_joined : (number : ℕ) → JoinedTo number [] (λ k. no_tally) [] no_matches
   none_joined number = record {
     kept_are = λ f holds. refl;
-    slots_are = λ f holds. none_match l.profile f config;
+    slots_are = λ f holds. none_match l.profile f config.filtering;
     tallies = λ f holds k below. record { flat_is = refl; cum_is = refl; occurs_is = refl };
     no_other = λ f holds k above. refl;
     flat_within = λ k. omega arith;
@@ -122,7 +122,7 @@ module _ (l : Loaded) (v : Verdicts) (config : Config) (column : Option ℕ) (na
       record {
         kept_are = λ f holds. (λ i. before.kept_are f holds i ++ is.kept f holds i)
             ∙ sym (numbers-append (λ x. is_some (filtered_stack l.profile f config.filtering x)) number (number + length a) a b refl);
-        slots_are = λ f holds. (λ i. either (before.slots_are f holds i) (is.matched f holds i)) ∙ either_match l.profile f config a b;
+        slots_are = λ f holds. (λ i. either (before.slots_are f holds i) (is.matched f holds i)) ∙ either_match l.profile f config.filtering a b;
         tallies = λ f holds k below.
             let w : Written = written_key l.profile names k in
             subst (λ (r : List (Seen Written)). IsTallyBy key_cmp r w (tally_added (at k) (sums_of k part.sums))) (sym (put-append f a b))

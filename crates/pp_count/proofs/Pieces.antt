@@ -218,6 +218,6 @@ none_counted scope m samples sofar first none empty matched totals =
     subst (λ (n : ℕ). AreCounted scope (front_of samples n) sofar) (sym first)
     (record {
       counted = record { seen = start.seen; are = start.are; tallies = start.tallies; earlier = λ k. omega (arith, start.earlier k); kept = start.kept; rising = start.rising };
-      matched = λ all f holds. matched ∙ none_match (profile_in_scope scope) f (config_of scope);
+      matched = λ all f holds. matched ∙ none_match (profile_in_scope scope) f (config_of scope).filtering;
       totals = λ all f holds. scope_totals_none (profile_in_scope scope) f (config_of scope) scope.column sofar.totals totals;
     })

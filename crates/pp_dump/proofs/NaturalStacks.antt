@@ -97,7 +97,7 @@ module _ (column : ℕ) where
         let theirs : AreNatural (seen_samples q no_finders d (Some column) q.sample) =
         seen_natural q no_finders d alike.undivided
         (subst (AllByRecursion Natural) (sym (whole d alike.tagfocus alike.tagignore ∙ whole_back (saved_contents p f config.filtering) settled))
-        (all_mapped Natural with_stack (saved_contents p f config.filtering).samples (summed_natural (length p.sample_type) items within (wide p f config valid) cut_natural))) in
+        (all_mapped Natural with_stack (saved_contents p f config.filtering).samples (summed_natural (length p.sample_type) items within (wide p f config.filtering valid) cut_natural))) in
         record {
           some = λ test.
               any_by_sum test _ theirs ∙ ap (λ (v : ℤ). not (int_eq v (pos 0))) (sums d alike test column within) ∙ sym (any_by_sum test _ ours);

@@ -35,7 +35,7 @@ module _ (test : Step → Bool) where
   module _ (asks : (pattern : List ℕ) → test (Ask pattern) ≡ true) (finds : Finds) (l : Loaded) (config : Config) where
     only_patterns : (report : Report) → Only test (ask_patterns finds l report config.filtering)
     unfolding ask_patterns
-    only_patterns report = only_then test (judge finds config.filtering (own_pattern report) l.profile) _ (only_judge test asks finds config (own_pattern report) l.profile) (λ judged. tt)
+    only_patterns report = only_then test (judge finds config.filtering (own_pattern report) l.profile) _ (only_judge test asks finds config.filtering (own_pattern report) l.profile) (λ judged. tt)
 
     only_counts : (report : Report) (showing : Showing) → Only test (prepare_counts finds l report config.filtering showing)
     unfolding prepare_counts

@@ -14,6 +14,7 @@ use Rattle.pp_model.specs.declared.profile.Sample.{Sample}
 use Rattle.pp_model.specs.declared.profile.Profile.{Profile}
 use Rattle.pp_model.specs.declared.verdicts.Slot.{Slot}
 use Rattle.pp_model.specs.declared.verdicts.Slot.TheVariants as slots
+use Rattle.pp_model.specs.declared.filtering.Filtering.{Filtering}
 use Rattle.pp_model.specs.Finders.{Finder, Finders}
 use Rattle.pp_model.specs.Frames.{stack_of}
 use Rattle.pp_model.specs.FrameTexts.{Written, written}
@@ -69,14 +70,14 @@ drops false false false false false true h = refl
 drops false false false false false false true = refl
 drops false false false false false false false = refl
 
-module _ (p : Profile) (f : Finders) (config : Config) where
-  pub one_of_seven : (s : Sample) → is_dropping (first_filter p f config.filtering s) ≡ true
+module _ (p : Profile) (f : Finders) (filtering : Filtering) where
+  pub one_of_seven : (s : Sample) → is_dropping (first_filter p f filtering s) ≡ true
   one_of_seven s =
       let stack = load_pruned (written p) f (stack_of p s) in
       let left = not_hidden (written p) f stack in
       drops (finds_or (written p) f.ignore stack false) (not (finds_or (written p) f.focus stack true)) (is_emptied stack left)
       (is_emptied left (frames_shown (written p) f left)) (not (is_some (shown_from (written p) f (frames_shown (written p) f left))))
-      (not (selects_or true p (filter_in_force config.filtering.tagfocus) f.tagfocus s)) (selects_or false p (filter_in_force config.filtering.tagignore) f.tagignore s)
+      (not (selects_or true p (filter_in_force filtering.tagfocus) f.tagfocus s)) (selects_or false p (filter_in_force filtering.tagignore) f.tagignore s)
 
 -- the values of samples
 abbrev worth : Config → Option ℕ → List Sample → ℤ
@@ -142,13 +143,13 @@ module _ (p : Profile) (f : Finders) (config : Config) (column : Option ℕ) whe
       let left : List Sample = filtered_samples p f config.filtering ss in
       let first : Option Slot = first_filter p f config.filtering s in (
         count_step s (part slots.Ignore ss) (part slots.Focus ss) (part slots.Hide ss) (part slots.Show ss) (part slots.ShowFrom ss) (part slots.TagFocus ss) (part slots.TagIgnore ss) left
-            first (one_of_seven p f config s) (length ss) rest.0
+            first (one_of_seven p f config.filtering s) (length ss) rest.0
             ∙ ap (λ b. length (part slots.Ignore (s ∷ ss)) + (length (part slots.Focus (s ∷ ss)) + (length (part slots.Hide (s ∷ ss)) + (length (part slots.Show (s ∷ ss)) + (length (part slots.ShowFrom (s ∷ ss))
-            + (length (part slots.TagFocus (s ∷ ss)) + (length (part slots.TagIgnore (s ∷ ss)) + (length (cond b (s ∷ left) left) + 0)))))))) (sym (left_or_dropped p f config s)),
+            + (length (part slots.TagFocus (s ∷ ss)) + (length (part slots.TagIgnore (s ∷ ss)) + (length (cond b (s ∷ left) left) + 0)))))))) (sym (left_or_dropped p f config.filtering s)),
         value_step s (part slots.Ignore ss) (part slots.Focus ss) (part slots.Hide ss) (part slots.Show ss) (part slots.ShowFrom ss) (part slots.TagFocus ss) (part slots.TagIgnore ss) left
-            config column first (one_of_seven p f config s) (worth config column ss) rest.1
+            config column first (one_of_seven p f config.filtering s) (worth config column ss) rest.1
             ∙ ap (λ b. worth config column (part slots.Ignore (s ∷ ss)) +ℤ (worth config column (part slots.Focus (s ∷ ss)) +ℤ (worth config column (part slots.Hide (s ∷ ss)) +ℤ (worth config column (part slots.Show (s ∷ ss))
-            +ℤ (worth config column (part slots.ShowFrom (s ∷ ss)) +ℤ (worth config column (part slots.TagFocus (s ∷ ss)) +ℤ (worth config column (part slots.TagIgnore (s ∷ ss)) +ℤ (worth config column (cond b (s ∷ left) left) +ℤ pos 0)))))))) (sym (left_or_dropped p f config s)),
+            +ℤ (worth config column (part slots.ShowFrom (s ∷ ss)) +ℤ (worth config column (part slots.TagFocus (s ∷ ss)) +ℤ (worth config column (part slots.TagIgnore (s ∷ ss)) +ℤ (worth config column (cond b (s ∷ left) left) +ℤ pos 0)))))))) (sym (left_or_dropped p f config.filtering s)),
       )
 
 pub samples_add_up : SamplesAddUp
@@ -229,7 +230,7 @@ filter_none : {X : Type 0} (t : X → Bool) (xs : List X) → ((x : X) → t x �
 filter_none t [] none = refl
 filter_none t (x ∷ xs) none = (λ i. cond (none x i) (x ∷ filter t xs) (filter t xs)) ∙ filter_none t xs none
 
-module _ (p : Profile) (f : Finders) (config : Config) where
+module _ (p : Profile) (f : Finders) (filtering : Filtering) where
   abbrev stack_at : Sample → List Frame
   stack_at s = load_pruned (written p) f (stack_of p s)
 
@@ -252,12 +253,12 @@ module _ (p : Profile) (f : Finders) (config : Config) where
   unstarted s = not (is_some (shown_from (written p) f (frames_shown (written p) f (left_at s))))
 
   abbrev unselected : Sample → Bool
-  unselected s = not (selects_or true p (filter_in_force config.filtering.tagfocus) f.tagfocus s)
+  unselected s = not (selects_or true p (filter_in_force filtering.tagfocus) f.tagfocus s)
 
   abbrev rejected : Sample → Bool
-  rejected s = selects_or false p (filter_in_force config.filtering.tagignore) f.tagignore s
+  rejected s = selects_or false p (filter_in_force filtering.tagignore) f.tagignore s
 
-  others : (slot : Slot) → is_in_force f config.filtering slot ≡ false → (s : Sample) → is_filter slot (first_filter p f config.filtering s) ≡ false
+  others : (slot : Slot) → is_in_force f filtering slot ≡ false → (s : Sample) → is_filter slot (first_filter p f filtering s) ≡ false
   others slots.Ignore none s =
       ap (λ b. is_filter slots.Ignore (cascade b (unfocused s) (hidden s) (unshown s) (unstarted s) (unselected s) (rejected s))) (unforced f.ignore _ false none)
       ∙ not_ignore (unfocused s) (hidden s) (unshown s) (unstarted s) (unselected s) (rejected s)
@@ -274,10 +275,10 @@ module _ (p : Profile) (f : Finders) (config : Config) where
       ap (λ b. is_filter slots.ShowFrom (cascade (ignored s) (unfocused s) (hidden s) (unshown s) b (unselected s) (rejected s))) (ap (λ o. not (is_some o)) (unforced f.show_from _ (Some (frames_shown (written p) f (left_at s))) none))
       ∙ not_show_from (ignored s) (unfocused s) (hidden s) (unshown s) (unselected s) (rejected s)
   others slots.TagFocus none s =
-      ap (λ b. is_filter slots.TagFocus (cascade (ignored s) (unfocused s) (hidden s) (unshown s) (unstarted s) b (rejected s))) (ap not (unforced (filter_in_force config.filtering.tagfocus) _ true none))
+      ap (λ b. is_filter slots.TagFocus (cascade (ignored s) (unfocused s) (hidden s) (unshown s) (unstarted s) b (rejected s))) (ap not (unforced (filter_in_force filtering.tagfocus) _ true none))
       ∙ not_tagfocus (ignored s) (unfocused s) (hidden s) (unshown s) (unstarted s) (rejected s)
   others slots.TagIgnore none s =
-      ap (λ b. is_filter slots.TagIgnore (cascade (ignored s) (unfocused s) (hidden s) (unshown s) (unstarted s) (unselected s) b)) (unforced (filter_in_force config.filtering.tagignore) _ false none)
+      ap (λ b. is_filter slots.TagIgnore (cascade (ignored s) (unfocused s) (hidden s) (unshown s) (unstarted s) (unselected s) b)) (unforced (filter_in_force filtering.tagignore) _ false none)
       ∙ not_tagignore (ignored s) (unfocused s) (hidden s) (unshown s) (unstarted s) (unselected s)
   others slots.PruneFrom none s = refl
   others slots.TagShow none s = refl
@@ -285,7 +286,7 @@ module _ (p : Profile) (f : Finders) (config : Config) where
   others slots.Own none s = refl
 
 pub others_drop_none : OthersDropNone
-others_drop_none p f config slot none = filter_none (λ s. is_filter slot (first_filter p f config.filtering s)) p.sample (others p f config slot none)
+others_drop_none p f config slot none = filter_none (λ s. is_filter slot (first_filter p f config.filtering s)) p.sample (others p f config.filtering slot none)
 
 -- keys that pass a test, and the others
 module _ (value : Written → ℤ) (t : Written → Bool) where

@@ -11,6 +11,7 @@ use Rattle.pp_model.specs.declared.config.Config.{Config}
 use Rattle.pp_model.specs.declared.frame.Frame.{Frame}
 use Rattle.pp_model.specs.declared.profile.Sample.{Sample}
 use Rattle.pp_model.specs.declared.profile.Profile.{Profile}
+use Rattle.pp_model.specs.declared.presentation.Presentation.{Presentation}
 use Rattle.pp_model.specs.Finders.{Finders}
 use Rattle.pp_model.specs.FrameTexts.{Written}
 use Rattle.pp_grain.specs.Keys.{key_cmp}
@@ -96,10 +97,10 @@ none_among test q (s ∷ ss) none = elim (test s) as (λ b. test s ≡ b → (b 
 ] refl none
 
 -- without a base the total is over all samples
-pub plain_total : (p : Profile) (config : Config) (column : Option ℕ) (ss : List Sample) → list_any (is_base p) ss ≡ false
-    → total_over p config.presentation column ss ≡ absolute_all column config.presentation.divide_by ss
-plain_total p config column ss none =
-    ap (λ base. total_by (absolute_all column config.presentation.divide_by base) (absolute_all column config.presentation.divide_by ss)) (none_left (is_base p) ss none)
+pub plain_total : (p : Profile) (presentation : Presentation) (column : Option ℕ) (ss : List Sample) → list_any (is_base p) ss ≡ false
+    → total_over p presentation column ss ≡ absolute_all column presentation.divide_by ss
+plain_total p presentation column ss none =
+    ap (λ base. total_by (absolute_all column presentation.divide_by base) (absolute_all column presentation.divide_by ss)) (none_left (is_base p) ss none)
 
 seen_within : (p : Profile) (f : Finders) (config : Config) (column : Option ℕ) → list_any (is_base p) p.sample ≡ false
     → absolute (seen_samples p f config column p.sample) ≤ total_of p f config column
@@ -107,8 +108,8 @@ seen_within p f config column none =
     let size : Sample → ℕ = λ s. nat_abs (selected column config.presentation.divide_by s) in
     let filtered : List Sample = filtered_samples p f config.filtering p.sample in
     elim config.presentation.relative_percentages as (λ b. absolute (seen_samples p f config column p.sample) ≤ total_over p config.presentation column (cond b filtered p.sample)) [
-      | true ↦ omega (arith, absolute_seen p f config column p.sample, plain_total p config column filtered (none_among (is_base p) (λ s. is_some (filtered_stack p f config.filtering s)) p.sample none))
-      | false ↦ omega (arith, absolute_seen p f config column p.sample, plain_total p config column p.sample none, filter_size size (λ s. is_some (filtered_stack p f config.filtering s)) p.sample)
+      | true ↦ omega (arith, absolute_seen p f config column p.sample, plain_total p config.presentation column filtered (none_among (is_base p) (λ s. is_some (filtered_stack p f config.filtering s)) p.sample none))
+      | false ↦ omega (arith, absolute_seen p f config column p.sample, plain_total p config.presentation column p.sample none, filter_size size (λ s. is_some (filtered_stack p f config.filtering s)) p.sample)
     ]
 
 pub percentages_within : PercentagesWithin

@@ -17,6 +17,8 @@ use Rattle.pp_model.specs.declared.report.BaseKind.{BaseKind}
 use Rattle.pp_model.specs.declared.report.Report.{Report}
 use Rattle.pp_model.specs.declared.report.Report.TheVariants as reports
 use Rattle.pp_model.specs.declared.verdicts.Verdicts.{Verdicts}
+use Rattle.pp_model.specs.declared.filtering.Filtering.{Filtering}
+use Rattle.pp_model.specs.declared.presentation.Presentation.{Presentation}
 use Rattle.pp_model.specs.Conditions.{IsColumnOf}
 use Rattle.pp_model.specs.Rules.{IsCompact}
 use Rattle.pp_model.specs.Sizes.{IsCountable}
@@ -35,38 +37,38 @@ use Rattle.pp_report.specs.Prepared.{Settled, Showing, showing, settled_of, coun
 use Rattle.pp_report.specs.Tagged.{basis_of}
 use Rattle.pp_report.proofs.PatternLemmas.{report_holds, can_count}
 
-module _ (finds : Finds) (l : Loaded) (report : Report) (config : Config) (s : Showing) (a b : World) where
+module _ (finds : Finds) (l : Loaded) (report : Report) (filtering : Filtering) (s : Showing) (a b : World) where
   -- the patterns were stopped
-  pub counts_stop : (stop : Stop) → Went a b (ask_patterns finds l report config.filtering) (Err stop)
-      → Went a b (prepare_counts finds l report config.filtering s) (counts_settled s (Err stop))
+  pub counts_stop : (stop : Stop) → Went a b (ask_patterns finds l report filtering) (Err stop)
+      → Went a b (prepare_counts finds l report filtering s) (counts_settled s (Err stop))
   unfolding prepare_counts
-  counts_stop stop went = asking_stops a b (ask_patterns finds l report config.filtering) _ stop went
+  counts_stop stop went = asking_stops a b (ask_patterns finds l report filtering) _ stop went
 
-  module _ (judged : Result Verdicts ReportRefusal) (went : Went a b (ask_patterns finds l report config.filtering) (Ok judged)) where
+  module _ (judged : Result Verdicts ReportRefusal) (went : Went a b (ask_patterns finds l report filtering) (Ok judged)) where
     -- one was refused
     pub counts_refused : (r : ReportRefusal) → judged ≡ Err r
-        → Went a b (prepare_counts finds l report config.filtering s) (counts_settled s (Ok (Err r)))
+        → Went a b (prepare_counts finds l report filtering s) (counts_settled s (Ok (Err r)))
     unfolding prepare_counts
     counts_refused r is =
-        asking_refused a b (ask_patterns finds l report config.filtering) _ r (subst (λ j. Went a b (ask_patterns finds l report config.filtering) (Ok j)) is went)
+        asking_refused a b (ask_patterns finds l report filtering) _ r (subst (λ j. Went a b (ask_patterns finds l report filtering) (Ok j)) is went)
 
     module _ (v : Verdicts) (is : judged ≡ Ok v) where
-      asked : Went a b (ask_patterns finds l report config.filtering) (Ok (Ok v))
-      asked = subst (λ j. Went a b (ask_patterns finds l report config.filtering) (Ok j)) is went
+      asked : Went a b (ask_patterns finds l report filtering) (Ok (Ok v))
+      asked = subst (λ j. Went a b (ask_patterns finds l report filtering) (Ok j)) is went
 
       -- memory was wanting after them
-      pub counts_want : Went a b (prepare_counts finds l report config.filtering s) (counts_settled s (Err stops.Memory))
+      pub counts_want : Went a b (prepare_counts finds l report filtering s) (counts_settled s (Err stops.Memory))
       unfolding prepare_counts
-      counts_want = asking_second a b (ask_patterns finds l report config.filtering) _ b v (Err stops.Memory) asked (wants b _)
+      counts_want = asking_second a b (ask_patterns finds l report filtering) _ b v (Err stops.Memory) asked (wants b _)
 
       -- all samples were counted
-      pub counts_all : (made : Counts × List ℕ) → made.1 ≡ notes_of finds l report config.filtering
-          → Went a b (prepare_counts finds l report config.filtering s) (counts_settled s (Ok (Ok made)))
+      pub counts_all : (made : Counts × List ℕ) → made.1 ≡ notes_of finds l report filtering
+          → Went a b (prepare_counts finds l report filtering s) (counts_settled s (Ok (Ok made)))
       unfolding prepare_counts
       counts_all made notes =
-          asking_second a b (ask_patterns finds l report config.filtering) _ b v (Ok (Ok (record { showing = s; notes = made.1 }))) asked
-          (subst (λ text. Went {T = Result Settled ReportRefusal} b b (Give (Ok (settled_of finds l report config.filtering s))) (Ok (Ok (record { showing = s; notes = text })))) (sym notes)
-          (asking_gives b (settled_of finds l report config.filtering s)))
+          asking_second a b (ask_patterns finds l report filtering) _ b v (Ok (Ok (record { showing = s; notes = made.1 }))) asked
+          (subst (λ text. Went {T = Result Settled ReportRefusal} b b (Give (Ok (settled_of finds l report filtering s))) (Ok (Ok (record { showing = s; notes = text })))) (sym notes)
+          (asking_gives b (settled_of finds l report filtering s)))
 
 -- what was counted by the verdicts of the report's patterns
 pub all_counted : (finds : Finds) (l : Loaded) (report : Report) (config : Config) (column : Option ℕ) (v : Verdicts)
@@ -75,9 +77,9 @@ pub all_counted : (finds : Finds) (l : Loaded) (report : Report) (config : Confi
     → made ≡ (record { verdicts = v; counted = counted }, notes_by config.filtering counted.matched.slots)
     → AreCountsNoted finds l report config column made
 all_counted finds l report config column v are compact countable below counted sums made is =
-    let holds = report_holds finds l report config v are compact in
+    let holds = report_holds finds l report config.filtering v are compact in
     subst (AreCountsNoted finds l report config column) (sym is) (record {
-      counts = record { holds = holds; can = can_count finds l report config v are column countable below; are = sums };
+      counts = record { holds = holds; can = can_count finds l report config.filtering v are column countable below; are = sums };
       notes = ap (notes_by config.filtering) (sums.matches (report_finders finds l report config.filtering) holds);
     })
 
@@ -139,16 +141,16 @@ module _ (finds : Finds) (l : Loaded) (report : Report) (config : Config) where
       prepare_shown a b s answer known
       (subst (λ script. Went a b script answer) (sym (showing_counts s counted)) (subst (λ q. Went a b (prepare_counts finds q report config.filtering s) answer) same went))
 
-module _ (l : Loaded) (report : Report) (config : Config) where
+module _ (l : Loaded) (report : Report) (presentation : Presentation) where
   -- a report that counts no samples is made of the loaded profile
-  pub basis_uncounted : is_counted report ≡ false → l ≡ basis_of report l config.presentation
+  pub basis_uncounted : is_counted report ≡ false → l ≡ basis_of report l presentation
   unfolding basis_of
-  basis_uncounted uncounted = ap (λ (yes : Bool). if yes then framed_for l config.presentation else l) (sym uncounted)
+  basis_uncounted uncounted = ap (λ (yes : Bool). if yes then framed_for l presentation else l) (sym uncounted)
 
   -- and one that counts them of the one with frames
-  pub basis_counted : is_counted report ≡ true → framed_for l config.presentation ≡ basis_of report l config.presentation
+  pub basis_counted : is_counted report ≡ true → framed_for l presentation ≡ basis_of report l presentation
   unfolding basis_of
-  basis_counted counted = ap (λ (yes : Bool). if yes then framed_for l config.presentation else l) (sym counted)
+  basis_counted counted = ap (λ (yes : Bool). if yes then framed_for l presentation else l) (sym counted)
 
 module _ (finds : Finds) (l : Loaded) (report : Report) (config : Config) (known : Shows)
     (shows : Ok (showing known) ≡ showing_for report (basis_of report l config.presentation).profile config.presentation) (prepared : Prepared) where
@@ -156,7 +158,7 @@ module _ (finds : Finds) (l : Loaded) (report : Report) (config : Config) (known
   pub none_prepared : is_counted report ≡ false → (base : Option BaseKind) → prepared ≡ record { base = base; notes = []; shows = known; counts = None; tagged = None }
       → IsPrepared finds l report config prepared
   none_prepared uncounted base is = subst (IsPrepared finds l report config) (sym is) (record {
-    basis = basis_uncounted l report config uncounted;
+    basis = basis_uncounted l report config.presentation uncounted;
     settled = record {
       shows_what = sym shows;
       has_counts = uncounted;

@@ -50,4 +50,4 @@ module _ (p : Profile) (f : Finders) (config : Config) (column : Option ℕ) (un
   -- The lines of all samples are those of the samples with these numbers.
   pub traced_kept : (kept : List ℕ) → kept ≡ filtered_from p f config.filtering 0 p.sample
       → flat_map (trace_of p f config column unit) p.sample ≡ flat_map (trace_of p f config column unit) (samples_at p kept)
-  traced_kept kept is = all_traced p.sample ∙ ap (flat_map (trace_of p f config column unit)) (sym (kept_samples p f config kept is))
+  traced_kept kept is = all_traced p.sample ∙ ap (flat_map (trace_of p f config column unit)) (sym (kept_samples p f config.filtering kept is))

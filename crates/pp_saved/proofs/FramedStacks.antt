@@ -99,7 +99,7 @@ module _ (p : Profile) (column : ℕ) (valid : NoRuleFails p) (within : column <
   pub saved_natural : (f : Finders) (config : Config) → AllByRecursion (λ s. IsNatural (get_or s.value column (pos 0))) (saved p f config.filtering).sample
   saved_natural f config =
       all_mapped (λ (s : Sample). IsNatural (get_or s.value column (pos 0))) (written_sample (saved_contents p f config.filtering)) (saved_contents p f config.filtering).samples
-      (summed_natural column (length p.sample_type) (cut_samples p f config.filtering) within (wide p f config valid) (cut_natural column p f config valid within least))
+      (summed_natural column (length p.sample_type) (cut_samples p f config.filtering) within (wide p f config.filtering valid) (cut_natural column p f config valid within least))
 
 -- Frames that are found in a profile are found in one that keeps its stacks, where its values are at least 0.
 pub frames_found : (p : Profile) (f : Finders) (config : Config) (q : Profile) (d : Config) (column : ℕ) → KeepsStacks p f config.filtering q

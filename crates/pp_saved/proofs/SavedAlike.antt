@@ -89,7 +89,7 @@ module _ (p : Profile) (f : Finders) (config : Config) (q : Profile) (can : CanS
   }
 
   whole : left_stacks q no_finders d.filtering ≡ whole_stacks q
-  whole = let compact : IsCompact q = subst IsCompact is.again (compact_written (contents q [])) in whole_left q compact.locations d refl refl is.valid
+  whole = let compact : IsCompact q = subst IsCompact is.again (compact_written (contents q [])) in whole_left q compact.locations d.filtering refl refl is.valid
 
   counted : (column : Option ℕ) → IsColumnOf p column → Counted p f config q d column
   counted None within =
@@ -124,7 +124,7 @@ module _ (p : Profile) (f : Finders) (config : Config) (q : Profile) (can : CanS
 
     total_is : total_of q no_finders d column ≡ total_of p f config column
     total_is =
-        relative_total q no_finders d column can.relative (none_of_base p f config q is.stacks can.plain)
+        relative_total q no_finders d column can.relative (none_of_base p f config.filtering q is.stacks can.plain)
         ∙ same.absolutes ∙ sym (relative_total p f config column can.relative can.plain)
 
     keys_are : each_once key_cmp (all_keys (report_samples q no_finders d column)) ≡ each_once key_cmp (all_keys (report_samples p f config column))
@@ -137,8 +137,8 @@ module _ (p : Profile) (f : Finders) (config : Config) (q : Profile) (can : CanS
       column = column;
       value_type = same_type p q column is.header.header i;
       total = total_is i;
-      file = (ap first_file is.is ∙ same_file p f config) i;
-      duration = (ap (λ (r : Profile). r.duration_nanos) is.is ∙ same_duration p f config can.settled) i;
+      file = (ap first_file is.is ∙ same_file p f config.filtering) i;
+      duration = (ap (λ (r : Profile). r.duration_nanos) is.is ∙ same_duration p f config.filtering can.settled) i;
       keys = keys_are i;
       finds = λ test k. same.frames (list_any (is_found_frame config.grouping test k)) i;
       flat_of = λ k. same.sums (leads key_cmp k) i;
@@ -164,12 +164,12 @@ saved_texts p f config column can within =
     let d : Config = unfiltered config in
     let figs : figures q g d column ≡ figures p f config column = saved_figures p f config column can within in
     record {
-      top = λ limit h. top_is q g d column limit h ∙ ap (λ (a : Figures). top_layout a config limit h) figs ∙ sym (top_is p f config column limit h);
-      tree = λ limit h. tree_is q g d column limit h ∙ ap (λ (a : Figures). tree_layout a config limit h) figs ∙ sym (tree_is p f config column limit h);
+      top = λ limit h. top_is q g d column limit h ∙ ap (λ (a : Figures). top_layout a config.presentation limit h) figs ∙ sym (top_is p f config column limit h);
+      tree = λ limit h. tree_is q g d column limit h ∙ ap (λ (a : Figures). tree_layout a config.presentation limit h) figs ∙ sym (tree_is p f config column limit h);
       found = ap (list_any (λ (s : Seen Written). list_any (finds_own f) s.keys)) (own_frames q f config column)
           ∙ (counted p f config q can (saving p f config can) column within).frames (list_any (finds_own f));
-      peek = λ h. peek_is q g d column h ∙ ap (λ (a : Figures). peek_layout a config f.own h) figs ∙ sym (peek_is p f config column h);
-      table = λ limit unit. table_is q g d column limit unit ∙ ap (λ (a : Figures). table_layout a config limit unit) figs ∙ sym (table_is p f config column limit unit);
+      peek = λ h. peek_is q g d column h ∙ ap (λ (a : Figures). peek_layout a config.presentation f.own h) figs ∙ sym (peek_is p f config column h);
+      table = λ limit unit. table_is q g d column limit unit ∙ ap (λ (a : Figures). table_layout a config.presentation limit unit) figs ∙ sym (table_is p f config column limit unit);
       folded = ap (λ (ss : List (Seen Written)). path_lines (all_paths key_cmp (map rooted ss))) (own_samples q f config column)
           ∙ ap path_lines (paths_are p f config q can (saving p f config can) column within);
     }

@@ -17,6 +17,7 @@ use Rattle.pp_model.specs.declared.profile.Profile.{Profile}
 use Rattle.pp_model.specs.declared.report.BaseKind.{BaseKind}
 use Rattle.pp_model.specs.declared.report.Report.{Report}
 use Rattle.pp_model.specs.declared.report.Report.TheVariants as reports
+use Rattle.pp_model.specs.declared.presentation.Presentation.{Presentation}
 use Rattle.pp_model.specs.Conditions.{IsColumnOf}
 use Rattle.pp_model.specs.Lookup.{text_of}
 use Rattle.pp_model.specs.ReportFacts.{is_counted}
@@ -90,22 +91,22 @@ module _ (p : Profile) where
       (first_below (length p.sample_type) (type_named p (text_of p p.default_sample_type)) (named_below (text_of p p.default_sample_type)))
   column_bound (b ∷ text) column is = asked_below (length p.sample_type) (column_named p (b ∷ text)) (column_below (b ∷ text)) column is
 
-  module _ (config : Config) (s : Showing) where
+  module _ (presentation : Presentation) (s : Showing) where
     unit_bound : (column : Option ℕ) (wanted : Option (Option Shown)) → IsColumnOf p column → in_unit column wanted ≡ Ok s → IsColumnOf p s.column
     unit_bound column None bound is = absurd cc
     unit_bound column (Some wanted) bound is =
         let same : ◌≡◌ {A = Showing} (record { column = column; wanted = wanted }) s = cc in subst (λ (t : Showing). IsColumnOf p t.column) same bound
 
-    in_bound : (o : Option (Option ℕ)) → ((column : Option ℕ) → o ≡ Some column → IsColumnOf p column) → in_column p config.presentation o ≡ Ok s → IsColumnOf p s.column
+    in_bound : (o : Option (Option ℕ)) → ((column : Option ℕ) → o ≡ Some column → IsColumnOf p column) → in_column p presentation o ≡ Ok s → IsColumnOf p s.column
     in_bound None known is = absurd cc
-    in_bound (Some column) known is = unit_bound column (wanted_unit config.presentation.unit (unit_text p column)) (known column refl) is
+    in_bound (Some column) known is = unit_bound column (wanted_unit presentation.unit (unit_text p column)) (known column refl) is
 
-    values_bound : in_column p config.presentation (column_of p config.presentation.sample_index) ≡ Ok s → IsColumnOf p s.column
-    values_bound = in_bound (column_of p config.presentation.sample_index) (column_bound config.presentation.sample_index)
+    values_bound : in_column p presentation (column_of p presentation.sample_index) ≡ Ok s → IsColumnOf p s.column
+    values_bound = in_bound (column_of p presentation.sample_index) (column_bound presentation.sample_index)
 
     -- what a report shows that stays
-    showing_bound : (report : Report) → stays_saved report ≡ true → showing_for report p config.presentation ≡ Ok s → IsColumnOf p s.column
-    showing_bound report stays = on_staying (λ r. showing_for r p config.presentation ≡ Ok s → IsColumnOf p s.column) values_bound values_bound (λ pattern. values_bound) values_bound values_bound report stays
+    showing_bound : (report : Report) → stays_saved report ≡ true → showing_for report p presentation ≡ Ok s → IsColumnOf p s.column
+    showing_bound report stays = on_staying (λ r. showing_for r p presentation ≡ Ok s → IsColumnOf p s.column) values_bound values_bound (λ pattern. values_bound) values_bound values_bound report stays
 
 -- ---- what a report comes to, where no pattern is refused
 
@@ -139,7 +140,7 @@ module _ (finds : Finds) (l : Loaded) (report : Report) (config : Config) (count
       let settled : Settled = settled_of finds over report config.filtering s in
       taken_then (prepare finds l report config) (report_settled finds l base report config) (Ok settled) (reported_with settled.notes x)
       (subst (λ k. GivesTaken (go_on (prepare_showing finds over report config.filtering) k) (Ok settled)) (sym known)
-      (subst (λ script. GivesTaken script (Ok settled)) (sym (showing_counts finds over report config s counted)) (gives_counts finds over report config s)))
+      (subst (λ script. GivesTaken script (Ok settled)) (sym (showing_counts finds over report config s counted)) (gives_counts finds over report config.filtering s)))
       (taken_then (finish finds l base report config s) (λ outcome. Give (reported_with settled.notes outcome)) x (reported_with settled.notes x) made refl)
 
   module _ (files : FileMap) (answers : List Answer) (taken : AllTaken answers) where
@@ -156,7 +157,7 @@ proto_taken finds l base config keyless =
     let over : Loaded = basis_of reports.Proto l config.presentation in
     let notes : List ℕ = (settled_of finds over reports.Proto config.filtering shown).notes in (
       notes,
-      subst (λ (q : Loaded). GivesTaken (report_script finds l base reports.Proto config) (reported_with notes (Ok (encode (saved_by finds q config))))) (plain_basis reports.Proto l config keyless)
+      subst (λ (q : Loaded). GivesTaken (report_script finds l base reports.Proto config) (reported_with notes (Ok (encode (saved_by finds q config))))) (plain_basis reports.Proto l config.presentation keyless)
           (made_taken finds l reports.Proto config refl base shown (Ok (encode (saved_by finds over config))) refl refl),
     )
 
@@ -194,11 +195,11 @@ module _ (finds : Finds) (l r : Loaded) (c : Config) (can : CanSave l.profile c.
 
     -- what is shown is known of the profile that a report is made of
     own : (known : Result Showing ReportRefusal) → showing_for report l.profile c.presentation ≡ known → showing_for report (basis_of report l c.presentation).profile c.presentation ≡ known
-    own known shows = ap (λ (q : Loaded). showing_for report q.profile c.presentation) (plain_basis report l c plain.keyless) ∙ shows
+    own known shows = ap (λ (q : Loaded). showing_for report q.profile c.presentation) (plain_basis report l c.presentation plain.keyless) ∙ shows
 
     saved_own : (known : Result Showing ReportRefusal) → showing_for report l.profile c.presentation ≡ known → showing_for report (basis_of report r d.presentation).profile d.presentation ≡ known
     saved_own known shows =
-        ap (λ (q : Loaded). showing_for report q.profile d.presentation) (plain_basis report r d (record { roots = plain.keyless.roots; leaves = plain.keyless.leaves }))
+        ap (λ (q : Loaded). showing_for report q.profile d.presentation) (plain_basis report r d.presentation (record { roots = plain.keyless.roots; leaves = plain.keyless.leaves }))
         ∙ alike.shows ∙ shows
 
     one_outcome : (known : Result Showing ReportRefusal) → showing_for report l.profile c.presentation ≡ known → ComeToOne (report_script finds r other report d) (report_script finds l base report c)
@@ -214,7 +215,7 @@ module _ (finds : Finds) (l r : Loaded) (c : Config) (can : CanSave l.profile c.
         let count = staying_counted report stays in
         let made = made_at_once finds l report c stays base s in
         let theirs : GivesTaken (finish finds r other report d s) made.0 =
-        subst (λ script. GivesTaken script made.0) (sym (alike.comes_to s (showing_bound l.profile c s report stays shows) base other)) made.1 in
+        subst (λ script. GivesTaken script made.0) (sym (alike.comes_to s (showing_bound l.profile c.presentation s report stays shows) base other)) made.1 in
         record {
           notes = (settled_of finds (basis_of report l c.presentation) report c.filtering s).notes;
           outcome = made.0;
@@ -270,4 +271,4 @@ proto_text finds l config text countable is = record {
 -- The text of a proto report, where no frames are made from labels.
 pub saved_bytes : SavedBytes
 saved_bytes finds l config text countable keyless is =
-    proto_text finds l config text countable (subst (λ (q : Loaded). IsProtoBy finds q config.filtering text) (plain_basis reports.Proto l config keyless) is)
+    proto_text finds l config text countable (subst (λ (q : Loaded). IsProtoBy finds q config.filtering text) (plain_basis reports.Proto l config.presentation keyless) is)

@@ -10,6 +10,7 @@ use Rattle.pp_model.specs.declared.profile.Profile.{Profile}
 use Rattle.pp_model.specs.declared.report.BaseKind.{BaseKind}
 use Rattle.pp_model.specs.declared.report.Report.{Report}
 use Rattle.pp_model.specs.declared.report.Report.TheVariants as reports
+use Rattle.pp_model.specs.declared.presentation.Presentation.{Presentation}
 use Rattle.pp_model.specs.Conditions.{IsColumnOf}
 use Rattle.pp_model.specs.Finders.{Finders}
 use Rattle.pp_units.specs.Head.{Facts}
@@ -67,9 +68,9 @@ head_is p f config column wanted =
     }
 
 -- without keys no frames are made from labels
-pub plain_basis : (report : Report) (l : Loaded) (config : Config) → NamesNoKey config.presentation → basis_of report l config.presentation ≡ l
+pub plain_basis : (report : Report) (l : Loaded) (presentation : Presentation) → NamesNoKey presentation → basis_of report l presentation ≡ l
 unfolding basis_of
-plain_basis report l config keyless = (λ i. if is_counted report then framed_by l (keyless.roots i) (keyless.leaves i) else l) ∙ by (is_counted report)
+plain_basis report l presentation keyless = (λ i. if is_counted report then framed_by l (keyless.roots i) (keyless.leaves i) else l) ∙ by (is_counted report)
   where
     by : (b : Bool) → (if b then l else l) ≡ l
     by true = refl
@@ -206,12 +207,12 @@ lacks_none finds l report config base s stays =
 -- The reports are alike.
 pub saved_reports : SavedReports
 saved_reports finds l r report config stays can plain is = record {
-  shows = unfiltered_shows report r.profile config ∙ same_showing l.profile r.profile (types_are finds l r report config can is) report config;
+  shows = unfiltered_shows report r.profile config ∙ same_showing l.profile r.profile (types_are finds l r report config can is) report config.presentation;
   comes_to = λ showing within base other.
       lacks_none finds r report (unfiltered config) other showing stays
       ∙ ap (λ (x : Loaded). finish_on finds x report (unfiltered config) showing)
-      (plain_basis report r (unfiltered config) (record { roots = plain.keyless.roots; leaves = plain.keyless.leaves }))
+      (plain_basis report r (unfiltered config).presentation (record { roots = plain.keyless.roots; leaves = plain.keyless.leaves }))
       ∙ text_same finds l r config plain.path_tree showing within can is report stays
-      ∙ ap (λ (x : Loaded). finish_on finds x report config showing) (sym (plain_basis report l config plain.keyless))
+      ∙ ap (λ (x : Loaded). finish_on finds x report config showing) (sym (plain_basis report l config.presentation plain.keyless))
       ∙ sym (lacks_none finds l report config base showing stays);
 }

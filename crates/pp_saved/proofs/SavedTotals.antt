@@ -11,6 +11,7 @@ use Rattle.pp_model.specs.declared.config.Config.{Config}
 use Rattle.pp_model.specs.declared.frame.Frame.{Frame}
 use Rattle.pp_model.specs.declared.profile.Sample.{Sample}
 use Rattle.pp_model.specs.declared.profile.Profile.{Profile}
+use Rattle.pp_model.specs.declared.filtering.Filtering.{Filtering}
 use Rattle.pp_model.specs.Finders.{Finders}
 use Rattle.pp_model.specs.Lookup.{text_of}
 use Rattle.pp_model.specs.FrameTexts.{Written}
@@ -66,8 +67,8 @@ abbrev Plain : StackText → Type 0
 Plain s = of_base s ≡ false
 
 -- No sample of a profile that keeps the stacks is one of a base, where none of the profile's is.
-pub none_of_base : (p : Profile) (f : Finders) (config : Config) (q : Profile) → KeepsStacks p f config.filtering q → list_any (is_base p) p.sample ≡ false → list_any (is_base q) q.sample ≡ false
-none_of_base p f config q keeps plain =
+pub none_of_base : (p : Profile) (f : Finders) (filtering : Filtering) (q : Profile) → KeepsStacks p f filtering q → list_any (is_base p) p.sample ≡ false → list_any (is_base q) q.sample ≡ false
+none_of_base p f filtering q keeps plain =
     each_none (is_base q) q.sample
     (all_by (λ s. of_base (whole_stack q s).0 ≡ false) _ (λ s is. sym (any_map base_text (label_text (text_of q)) s.label) ∙ is) q.sample
     (all_unmapped (λ s. of_base s.0 ≡ false) (whole_stack q) q.sample
@@ -97,7 +98,7 @@ pub relative_total : (p : Profile) (f : Finders) (config : Config) (column : Opt
     → total_of p f config column ≡ absolute (seen_samples p f config column p.sample)
 relative_total p f config column relative plain =
     ap (λ (b : Bool). total_over p config.presentation column (if b then filtered_samples p f config.filtering p.sample else p.sample)) relative
-    ∙ plain_total p config column (filtered_samples p f config.filtering p.sample) (none_among (is_base p) (λ s. is_some (filtered_stack p f config.filtering s)) p.sample plain)
+    ∙ plain_total p config.presentation column (filtered_samples p f config.filtering p.sample) (none_among (is_base p) (λ s. is_some (filtered_stack p f config.filtering s)) p.sample plain)
     ∙ sym (absolute_seen p f config column p.sample)
 
 -- Without a column nothing adds up.

@@ -67,7 +67,7 @@ module _ (p : Profile) (lasts : IsLasting p) (config : Config) where
 
   one_sample : (s : Sample) → RefersTo p s → option_map (cut_sample p no_finders s) (filtered_stack p no_finders d.filtering s) ≡ Some (sample_text found_text (text_of p) s)
   one_sample s refers =
-      ap (option_map (cut_sample p no_finders s)) (none_dropped p numbered d refl refl s)
+      ap (option_map (cut_sample p no_finders s)) (none_dropped p numbered d.filtering refl refl s)
       ∙ (λ i. Some (record { locations = stack_located s refers i; labels = map (label_text (text_of p)) (all_shown p s.label i) }, s.value))
 
   each_sample : (xs : List Sample) → AllByRecursion (RefersTo p) xs

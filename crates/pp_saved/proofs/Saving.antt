@@ -44,11 +44,11 @@ is_saved p f config valid own_starts again =
     (all_mapped (λ (m : MappingText). m.start < 2 ^ 64) (mapping_text p) p.mapping own_starts) in
     let c : Contents = saved_contents p f config.filtering in
     let q : Profile = saved p f config.filtering in
-    let settled : IsSettled c = settled_saved p starts again f config in
-    let stacks : KeepsStacks p f config.filtering q = keeps_stacks p f config valid starts again settled in
+    let settled : IsSettled c = settled_saved p starts again f config.filtering in
+    let stacks : KeepsStacks p f config.filtering q = keeps_stacks p f config.filtering valid starts again settled in
     let q_valid : NoRuleFails q = valid_written c settled.fits in
     let whole : (d : Config) → d.filtering.tagfocus ≡ [] → d.filtering.tagignore ≡ [] → left_stacks q no_finders d.filtering ≡ whole_stacks q =
-    λ d tagfocus tagignore. whole_left q (compact_written c).locations d tagfocus tagignore q_valid in
+    λ d tagfocus tagignore. whole_left q (compact_written c).locations d.filtering tagfocus tagignore q_valid in
     let sums : KeepsSums p f config q = keeps_sums p f config q stacks whole in
     let header : header_of q [] ≡ patternless p = ap (λ (what : Contents). what.header) (contents_again c settled) in
     record {
@@ -56,7 +56,7 @@ is_saved p f config valid own_starts again =
       stacks = stacks;
       sums = sums;
       keys = λ least d alike column within.
-          keeps_keys column p f config valid within least settled (left_is p f config valid starts again) sums whole d alike;
+          keeps_keys column p f config valid within least settled (left_is p f config.filtering valid starts again) sums whole d alike;
       header = record { header = header; columns = same_column p q header };
       valid = q_valid;
       again = ap written (contents_again c settled);

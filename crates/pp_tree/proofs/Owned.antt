@@ -158,7 +158,7 @@ module _ (p : Profile) (f : Finders) (config : Config) (column : Option ℕ) whe
         → list_any (has_own_number p f config column find k) kept ≡ is_found_key p f config column k
     own_key_is kept is k =
         sym (any-filter_map (has_own_sample p f config column find k) (slice_get p.sample) kept)
-        ∙ ap (list_any (has_own_sample p f config column find k)) (kept_samples p f config kept is)
+        ∙ ap (list_any (has_own_sample p f config column find k)) (kept_samples p f config.filtering kept is)
         ∙ over_samples k p.sample
 
     -- the keys that are gathered over them are those that are found

@@ -18,4 +18,4 @@ pub returns : goal.returns
 returns c = λ f holds.
     to_z-of_z w64 c.selected_sum.result (fits_signed_from_abs w64 c.selected_sum.result c.selected_sum.ensures.small) ∙ c.selected_sum.ensures.value
     ∙ ap (selected_all c.args.survey.now.column c.args.survey.now.config.now.presentation.divide_by) (ap (samples_at c.args.survey.now.l.now.profile) c.as_slice-kept.ensures
-    ∙ kept_samples c.args.survey.now.l.now.profile f c.args.survey.now.config.now c.args.survey.now.counted.now.kept (c.args.survey.now.counts.kept f holds))
+    ∙ kept_samples c.args.survey.now.l.now.profile f c.args.survey.now.config.now.filtering c.args.survey.now.counted.now.kept (c.args.survey.now.counts.kept f holds))

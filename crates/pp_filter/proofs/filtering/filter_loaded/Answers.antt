@@ -10,13 +10,13 @@ use Rattle.pp_filter.proofs.filtering.filter_loaded.Goals as goal
 
 -- the samples can be counted by the verdicts
 pub save-requires-after_bounds : goal.save-requires-after_bounds
-save-requires-after_bounds g c = λ _ _. can_save g.D.Desk.finds c.args.l.now c.args.config.now c.in_ok-v.v c.in_ok-v.ensures.found c.requires
+save-requires-after_bounds g c = λ _ _. can_save g.D.Desk.finds c.args.l.now c.args.config.now.filtering c.in_ok-v.v c.in_ok-v.ensures.found c.requires
 
 -- they are what the patterns find, so that is saved which these leave
 pub returns-clause-saved : goal.returns-clause-saved
 returns-clause-saved g c =
     c.in_ok-saved.ensures (own_finders g.D.Desk.finds c.args.l.now c.args.config.now.filtering)
-    (filter_holds g.D.Desk.finds c.args.l.now c.args.config.now c.in_ok-v.v c.in_ok-v.ensures.found (subst IsCompact c.get-profile.ensures.same c.get-profile.ensures.compact))
+    (filter_holds g.D.Desk.finds c.args.l.now c.args.config.now.filtering c.in_ok-v.v c.in_ok-v.ensures.found (subst IsCompact c.get-profile.ensures.same c.get-profile.ensures.compact))
 
 -- the patterns were asked, and this is what comes of it
 pub returns-clause-went : goal.returns-clause-went
