@@ -5,7 +5,7 @@ ghost use Rattle.pp_model.specs.Conditions.{IsSampleOf, RefersTo};
 ghost use Rattle.pp_model.specs.Finders.{Finders};
 ghost use Rattle.pp_stack.specs.Filters.{has_no_items};
 ghost use Rattle.pp_count.specs.Column.{selected};
-ghost use Rattle.pp_count.specs.Scope.{AreCountable, IsSoundScope};
+ghost use Rattle.pp_count.specs.Scope.{AreCountable, IsSoundScope, config_of};
 ghost use Rattle.pp_count.specs.Seeing.{HoldsFilters, filtered_stack};
 ghost use Rattle.pp_account.specs.Adding.{with_sample};
 ghost use Rattle.pp_account.specs.First.{first_filter};
@@ -38,6 +38,7 @@ pub fn portions_of(alloc: Global, survey: &Survey<'_>) -> Result<Portions, Memor
         l: survey.l,
         v: survey.v,
         config: survey.config,
+        grouping: survey.config.grouping,
         filters: survey.filters(),
         column: survey.column,
         table: survey.table(),
@@ -54,7 +55,7 @@ fn add_samples(alloc: Global, scope: &Scope) -> Result<Portions, Memory>
     requires whole { scope.now.chosen ≡ None }
     ensures { let w = scope.now in (f : Finders) → HoldsFilters w.l.now w.v.now w.config.now.filtering f →
         IfOk result (λ d. d
-        ≡ portions_of w.l.now.profile f w.config.now w.column w.l.now.profile.sample) }
+        ≡ portions_of w.l.now.profile f (config_of w) w.column w.l.now.profile.sample) }
 {
     let mut room = Room {
         stack: List::new(alloc),
@@ -79,7 +80,7 @@ fn add_sample(
     requires refers { RefersTo scope.now.l.now.profile s.now }
     ensures { let w = scope.now in (f : Finders) → HoldsFilters w.l.now w.v.now w.config.now.filtering f →
         IfOk result (λ _. portions.new ≡ with_sample (first_filter w.l.now.profile f w.config.now.filtering s.now)
-        (is_bare w.l.now.profile f w.config.now w.column s.now)
+        (is_bare w.l.now.profile f (config_of w) w.column s.now)
         (selected w.column w.config.now.presentation.divide_by s.now) portions.old) }
 {
     let value = selected(scope.l, s, scope.column, scope.config.presentation.divide_by);

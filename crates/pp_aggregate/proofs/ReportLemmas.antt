@@ -189,15 +189,15 @@ module _ (keep : Kept) (p : Profile) (f : Finders) (config : Config) (column : O
     pub samples_stay : keeps_keys keep config.grouping.grain config.grouping.showcolumns ≡ true → report_samples kept f config column ≡ report_samples p f config column
     samples_stay all =
         sym (keyed_report kept f config column)
-        ∙ ap (map (renamed (key_of_written config))) frames_left
-        ∙ map_twice (renamed (key_of_written config)) (renamed (left_of_frame keep)) (report_frames p f config column)
+        ∙ ap (map (renamed (key_of_written config.grouping))) frames_left
+        ∙ map_twice (renamed (key_of_written config.grouping)) (renamed (left_of_frame keep)) (report_frames p f config column)
         ∙ (λ i. map (λ s. keys_same s i) (report_frames p f config column))
         ∙ keyed_report p f config column
       where
-        keys_same : (s : Seen Written) → renamed (key_of_written config) (renamed (left_of_frame keep) s) ≡ renamed (key_of_written config) s
+        keys_same : (s : Seen Written) → renamed (key_of_written config.grouping) (renamed (left_of_frame keep) s) ≡ renamed (key_of_written config.grouping) s
         keys_same s = λ i. record {
           value = s.value;
-          keys = (map_twice (key_of_written config) (left_of_frame keep) s.keys ∙ (λ j. map (λ w. key_left keep config.grouping.grain config.grouping.showcolumns w all j) s.keys)) i;
+          keys = (map_twice (key_of_written config.grouping) (left_of_frame keep) s.keys ∙ (λ j. map (λ w. key_left keep config.grouping.grain config.grouping.showcolumns w all j) s.keys)) i;
         }
 
 pub frames_are_left : FramesAreLeft
@@ -230,4 +230,4 @@ keys_are_same keep p config s valid counted all =
     kept = aggregated keep p
 
     key : Written → Written
-    key = key_of_written config
+    key = key_of_written config.grouping

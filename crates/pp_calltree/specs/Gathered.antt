@@ -20,7 +20,7 @@ pub record IsScopeOf (l : Loaded) (v : Verdicts) (config : Config) (column : Opt
     (scope : Scope) : Type 0 where
   pub l_is : scope.l.now ≡ l
   pub v_is : scope.v.now ≡ v
-  pub config_is : scope.config.now ≡ config
+  pub config_is : config_of scope ≡ config
   pub column_is : scope.column ≡ column
 
 -- The scope chooses the samples that the filters leave, whose values can be added up.

@@ -204,6 +204,7 @@ fn scope_of<'a>(survey: &Survey<'a>) -> Scope<'a>
         l: survey.l,
         v: survey.v,
         config: survey.config,
+        grouping: survey.config.grouping,
         filters: survey.filters(),
         column: survey.column,
         table: survey.table(),

@@ -25,8 +25,8 @@ use Rattle.pp_count.specs.Seeing.{counted_frames, framed_with, framed_samples, f
 use Rattle.pp_count.specs.Counted.{report_samples, report_frames}
 
 -- what a frame that counts is in a report: its key
-abbrev pub key_of_written : Config → Written → Written
-key_of_written config = key_texts config.grouping.grain config.grouping.showcolumns
+abbrev pub key_of_written : Grouping → Written → Written
+key_of_written grouping = key_texts grouping.grain grouping.showcolumns
 
 -- samples of value 0 are left out alike by keys and by what the keys stand for
 pub weighed-renamed : {J K : Type 0} (f : J → K) (ss : List (Seen J)) → weighed (map (renamed f) ss) ≡ map (renamed f) (weighed ss)
@@ -38,30 +38,30 @@ weighed-renamed f (s ∷ ss) =
     ]
 
 module _ (p : Profile) (f : Finders) (config : Config) (column : Option ℕ) where
-  keys_of_frames : (stack : List Frame) → map (key_of_written config) (map (written p) stack) ≡ map (key_of_frame p config.grouping) stack
+  keys_of_frames : (stack : List Frame) → map (key_of_written config.grouping) (map (written p) stack) ≡ map (key_of_frame p config.grouping) stack
   keys_of_frames [] = refl
   keys_of_frames (x ∷ stack) = ap (λ ks. key_of_frame p config.grouping x ∷ ks) (keys_of_frames stack)
 
-  keyed_stack : (s : Sample) (stack : List Frame) → renamed (key_of_written config) (framed_with p config column s stack) ≡ seen_with p config column s stack
+  keyed_stack : (s : Sample) (stack : List Frame) → renamed (key_of_written config.grouping) (framed_with p config column s stack) ≡ seen_with p config column s stack
   keyed_stack s stack = ap (λ ks. record { value = (seen_with p config column s stack).value; keys = ks }) (keys_of_frames (counted_frames config.grouping.noinlines stack))
 
   keyed_option : (s : Sample) (o : Option (List Frame)) (ss : List (Seen Written))
-      → map (renamed (key_of_written config)) (cons_option (option_map (framed_with p config column s) o) ss)
-      ≡ cons_option (option_map (seen_with p config column s) o) (map (renamed (key_of_written config)) ss)
+      → map (renamed (key_of_written config.grouping)) (cons_option (option_map (framed_with p config column s) o) ss)
+      ≡ cons_option (option_map (seen_with p config column s) o) (map (renamed (key_of_written config.grouping)) ss)
   keyed_option s None ss = refl
-  keyed_option s (Some stack) ss = ap (λ r. r ∷ map (renamed (key_of_written config)) ss) (keyed_stack s stack)
+  keyed_option s (Some stack) ss = ap (λ r. r ∷ map (renamed (key_of_written config.grouping)) ss) (keyed_stack s stack)
 
   -- The samples by keys are the samples by frames, with each frame's key.
-  pub keyed_frames : (samples : List Sample) → map (renamed (key_of_written config)) (framed_samples p f config column samples) ≡ seen_samples p f config column samples
+  pub keyed_frames : (samples : List Sample) → map (renamed (key_of_written config.grouping)) (framed_samples p f config column samples) ≡ seen_samples p f config column samples
   keyed_frames [] = refl
   keyed_frames (s ∷ samples) =
       keyed_option s (filtered_stack p f config.filtering s) (framed_samples p f config column samples)
       ∙ ap (cons_option (option_map (seen_with p config column s) (filtered_stack p f config.filtering s))) (keyed_frames samples)
 
   -- The samples that put frames into the report put keys into it, each frame its key.
-  pub keyed_report : map (renamed (key_of_written config)) (report_frames p f config column) ≡ report_samples p f config column
+  pub keyed_report : map (renamed (key_of_written config.grouping)) (report_frames p f config column) ≡ report_samples p f config column
   keyed_report =
-      sym (weighed-renamed (key_of_written config) (framed_samples p f config column p.sample)) ∙ ap weighed (keyed_frames p.sample)
+      sym (weighed-renamed (key_of_written config.grouping) (framed_samples p f config column p.sample)) ∙ ap weighed (keyed_frames p.sample)
 
 module _ (l : Loaded) (v : Verdicts) (config : Config) (column : Option ℕ) (names : List Key) where
   -- the sums of consecutive ranges are within the values of their samples

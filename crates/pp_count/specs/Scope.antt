@@ -28,9 +28,9 @@ use Rattle.pp_count.specs.Totals.{AreTotals}
 abbrev pub profile_in_scope : Scope → Profile
 profile_in_scope scope = scope.l.now.profile
 
--- the configuration
+-- the configuration, with what the scope's keys are
 abbrev pub config_of : Scope → Config
-config_of scope = scope.config.now
+config_of scope = record (scope.config.now) { grouping = scope.grouping }
 
 -- the keys that pairs are counted over; none where keys are counted
 abbrev pub over_of : Scope → Option Pairing

@@ -118,6 +118,7 @@ fn chosen_tallies<'x, R: Threads + Sync, G: Gate>(
         l: survey.l,
         v: survey.v,
         config: survey.config,
+        grouping: survey.config.grouping,
         filters: &survey.counted.filters,
         column: survey.column,
         table: &survey.counted.table,
@@ -166,33 +167,33 @@ pub fn counted_whole(survey: &Survey<'_>) -> i64
         survey.now.l.now.profile.sample) }
 {
     let kept = survey.counted.kept.as_slice();
-    selected_sum(survey.l, survey.config, survey.column, kept)
+    selected_sum(survey.l, &survey.config.presentation, survey.column, kept)
 }
 
 // The sum of the selected values of the samples with these numbers.
-fn selected_sum(l: &Loaded, config: &Config, column: Option<u32>, numbers: &[u32]) -> i64
-    requires fits { absolute_all column config.now.presentation.divide_by l.now.profile.sample < 2 ^ 63 }
+fn selected_sum(l: &Loaded, presentation: &Presentation, column: Option<u32>, numbers: &[u32]) -> i64
+    requires fits { absolute_all column presentation.now.divide_by l.now.profile.sample < 2 ^ 63 }
     requires rising { AreRisingBetween 0 (length l.now.profile.sample) numbers.now }
     ensures value { result
-        ≡ selected_all column config.now.presentation.divide_by (samples_at l.now.profile numbers.now) }
+        ≡ selected_all column presentation.now.divide_by (samples_at l.now.profile numbers.now) }
     ensures small { nat_abs result < 2 ^ 63 }
 {
     let mut sum = 0;
     for number in numbers {
-        let value = value_of(l, config, column, *number);
+        let value = value_of(l, presentation, column, *number);
         sum = sum_of(sum, value);
     }
     sum
 }
 
 // The selected value of the sample with this number.
-fn value_of(l: &Loaded, config: &Config, column: Option<u32>, number: u32) -> i64
+fn value_of(l: &Loaded, presentation: &Presentation, column: Option<u32>, number: u32) -> i64
     requires { number < length l.now.profile.sample }
-    ensures { result ≡ selected column config.now.presentation.divide_by
+    ensures { result ≡ selected column presentation.now.divide_by
         (slice_index_or l.now.profile.sample number no_sample) }
 {
     let samples = l.profile.get().sample.as_slice();
-    selected(l, &samples[number as usize], column, config.presentation.divide_by)
+    selected(l, &samples[number as usize], column, presentation.divide_by)
 }
 
 fn sum_of(sum: i64, value: i64) -> i64

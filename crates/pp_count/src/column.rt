@@ -21,13 +21,13 @@ pub struct BadSampleIndex;
 ///
 /// An empty `sample_index` means the first type of the profile's default name, else the last one. Digits alone are a
 /// place, counted from 0. Any other text is the name of a type, of which the first counts.
-pub fn column_of(l: &Loaded, config: &Config) -> Result<Option<u32>, BadSampleIndex>
+pub fn column_of(l: &Loaded, presentation: &Presentation) -> Result<Option<u32>, BadSampleIndex>
     requires { length l.now.profile.sample_type < 2 ^ 32 }
-    ensures value { result_ok result ≡ column_of l.now.profile config.now.presentation.sample_index }
+    ensures value { result_ok result ≡ column_of l.now.profile presentation.now.sample_index }
     ensures bound { IfOk result (IsColumnOf l.now.profile) }
 {
     let p = l.profile.get();
-    let text = config.presentation.sample_index.as_slice();
+    let text = presentation.sample_index.as_slice();
     if text.is_empty() {
         return Ok(default_column(p));
     }

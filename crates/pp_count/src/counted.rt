@@ -88,8 +88,8 @@ fn table_and_filters(
     ensures table { IfOk result (λ by. IsKeyTable l.now.profile config.now.grouping by.0) }
     ensures filters { IfOk result (λ by. AreFilters l.now.profile v.now config.now.filtering by.1) }
 {
-    let table = key_table(alloc, hash_keys, l, config)?;
-    let filters = Filters::new(alloc, l, v, config)?;
+    let table = key_table(alloc, hash_keys, l, config.grouping)?;
+    let filters = Filters::new(alloc, l, v, &config.filtering)?;
     Ok((table, filters))
 }
 

@@ -36,7 +36,7 @@ pub fn count_piece(
         (PIECE * piece) (piece_of l.now.profile.sample piece)) }
 {
     let _compact = l.profile.get();
-    let filters = Filters::without_tables(alloc, l, v, config)?;
+    let filters = Filters::without_tables(alloc, l, v, &config.filtering)?;
     let scope = Scope::whole(l, v, config, &filters, column, table);
     let part = count_piece_of(alloc, &scope, piece);
     mem::drop(filters);

@@ -144,6 +144,7 @@ fn pair_sums<'x, R: Threads + Sync, G: Gate>(
         l: survey.l,
         v: survey.v,
         config: survey.config,
+        grouping: survey.config.grouping,
         filters: &counted.filters,
         column: survey.column,
         table: &counted.table,

@@ -80,8 +80,8 @@ module _ (p : Profile) (f : Finders) (filtering : Filtering) where
       (not (selects_or true p (filter_in_force filtering.tagfocus) f.tagfocus s)) (selects_or false p (filter_in_force filtering.tagignore) f.tagignore s)
 
 -- the values of samples
-abbrev worth : Config → Option ℕ → List Sample → ℤ
-worth config column samples = selected_all column config.presentation.divide_by samples
+abbrev worth : Presentation → Option ℕ → List Sample → ℤ
+worth presentation column samples = selected_all column presentation.divide_by samples
 
 -- one sample more ends in one place
 module _ (s : Sample) (a b c d e g h left : List Sample) where
@@ -106,16 +106,16 @@ module _ (s : Sample) (a b c d e g h left : List Sample) where
   count_step (Some slots.TagHide) is n so = absurd (false≢true is)
   count_step (Some slots.Own) is n so = absurd (false≢true is)
 
-  module _ (config : Config) (column : Option ℕ) where
+  module _ (presentation : Presentation) (column : Option ℕ) where
     abbrev values : Option Slot → ℤ
     values o =
-        worth config column (cond (is_filter slots.Ignore o) (s ∷ a) a) +ℤ (worth config column (cond (is_filter slots.Focus o) (s ∷ b) b) +ℤ (worth config column (cond (is_filter slots.Hide o) (s ∷ c) c)
-        +ℤ (worth config column (cond (is_filter slots.Show o) (s ∷ d) d) +ℤ (worth config column (cond (is_filter slots.ShowFrom o) (s ∷ e) e) +ℤ (worth config column (cond (is_filter slots.TagFocus o) (s ∷ g) g)
-        +ℤ (worth config column (cond (is_filter slots.TagIgnore o) (s ∷ h) h) +ℤ (worth config column (cond (not (is_some o)) (s ∷ left) left) +ℤ pos 0)))))))
+        worth presentation column (cond (is_filter slots.Ignore o) (s ∷ a) a) +ℤ (worth presentation column (cond (is_filter slots.Focus o) (s ∷ b) b) +ℤ (worth presentation column (cond (is_filter slots.Hide o) (s ∷ c) c)
+        +ℤ (worth presentation column (cond (is_filter slots.Show o) (s ∷ d) d) +ℤ (worth presentation column (cond (is_filter slots.ShowFrom o) (s ∷ e) e) +ℤ (worth presentation column (cond (is_filter slots.TagFocus o) (s ∷ g) g)
+        +ℤ (worth presentation column (cond (is_filter slots.TagIgnore o) (s ∷ h) h) +ℤ (worth presentation column (cond (not (is_some o)) (s ∷ left) left) +ℤ pos 0)))))))
 
     value_step : (o : Option Slot) → is_dropping o ≡ true → (z : ℤ)
-        → z ≡ worth config column a +ℤ (worth config column b +ℤ (worth config column c +ℤ (worth config column d +ℤ (worth config column e +ℤ (worth config column g +ℤ (worth config column h +ℤ (worth config column left +ℤ pos 0)))))))
-        → selected column config.presentation.divide_by s +ℤ z ≡ values o
+        → z ≡ worth presentation column a +ℤ (worth presentation column b +ℤ (worth presentation column c +ℤ (worth presentation column d +ℤ (worth presentation column e +ℤ (worth presentation column g +ℤ (worth presentation column h +ℤ (worth presentation column left +ℤ pos 0)))))))
+        → selected column presentation.divide_by s +ℤ z ≡ values o
     value_step None is z so = omega (arith, ints, so)
     value_step (Some slots.Ignore) is z so = omega (arith, ints, so)
     value_step (Some slots.Focus) is z so = omega (arith, ints, so)
@@ -136,7 +136,7 @@ module _ (p : Profile) (f : Finders) (config : Config) (column : Option ℕ) whe
   abbrev ends : List Sample → Portion
   ends ss = together (map (λ slot. portion_of config.presentation column (part slot ss)) dropping ++ portion_of config.presentation column (filtered_samples p f config.filtering ss) ∷ [])
 
-  all_end : (ss : List Sample) → (length ss ≡ (ends ss).count) × (worth config column ss ≡ (ends ss).value)
+  all_end : (ss : List Sample) → (length ss ≡ (ends ss).count) × (worth config.presentation column ss ≡ (ends ss).value)
   all_end [] = (refl, refl)
   all_end (s ∷ ss) =
       let rest = all_end ss in
@@ -147,9 +147,9 @@ module _ (p : Profile) (f : Finders) (config : Config) (column : Option ℕ) whe
             ∙ ap (λ b. length (part slots.Ignore (s ∷ ss)) + (length (part slots.Focus (s ∷ ss)) + (length (part slots.Hide (s ∷ ss)) + (length (part slots.Show (s ∷ ss)) + (length (part slots.ShowFrom (s ∷ ss))
             + (length (part slots.TagFocus (s ∷ ss)) + (length (part slots.TagIgnore (s ∷ ss)) + (length (cond b (s ∷ left) left) + 0)))))))) (sym (left_or_dropped p f config.filtering s)),
         value_step s (part slots.Ignore ss) (part slots.Focus ss) (part slots.Hide ss) (part slots.Show ss) (part slots.ShowFrom ss) (part slots.TagFocus ss) (part slots.TagIgnore ss) left
-            config column first (one_of_seven p f config.filtering s) (worth config column ss) rest.1
-            ∙ ap (λ b. worth config column (part slots.Ignore (s ∷ ss)) +ℤ (worth config column (part slots.Focus (s ∷ ss)) +ℤ (worth config column (part slots.Hide (s ∷ ss)) +ℤ (worth config column (part slots.Show (s ∷ ss))
-            +ℤ (worth config column (part slots.ShowFrom (s ∷ ss)) +ℤ (worth config column (part slots.TagFocus (s ∷ ss)) +ℤ (worth config column (part slots.TagIgnore (s ∷ ss)) +ℤ (worth config column (cond b (s ∷ left) left) +ℤ pos 0)))))))) (sym (left_or_dropped p f config.filtering s)),
+            config.presentation column first (one_of_seven p f config.filtering s) (worth config.presentation column ss) rest.1
+            ∙ ap (λ b. worth config.presentation column (part slots.Ignore (s ∷ ss)) +ℤ (worth config.presentation column (part slots.Focus (s ∷ ss)) +ℤ (worth config.presentation column (part slots.Hide (s ∷ ss)) +ℤ (worth config.presentation column (part slots.Show (s ∷ ss))
+            +ℤ (worth config.presentation column (part slots.ShowFrom (s ∷ ss)) +ℤ (worth config.presentation column (part slots.TagFocus (s ∷ ss)) +ℤ (worth config.presentation column (part slots.TagIgnore (s ∷ ss)) +ℤ (worth config.presentation column (cond b (s ∷ left) left) +ℤ pos 0)))))))) (sym (left_or_dropped p f config.filtering s)),
       )
 
 pub samples_add_up : SamplesAddUp
@@ -347,22 +347,22 @@ module _ (p : Profile) (f : Finders) (config : Config) (column : Option ℕ) whe
   abbrev bares : List Sample → List Sample
   bares ss = bare_samples p f config column ss
 
-  worth_if : (b : Bool) (s : Sample) (ss : List Sample) → worth config column (cond b (s ∷ ss) ss) ≡ cond b (selected column config.presentation.divide_by s +ℤ worth config column ss) (worth config column ss)
+  worth_if : (b : Bool) (s : Sample) (ss : List Sample) → worth config.presentation column (cond b (s ∷ ss) ss) ≡ cond b (selected column config.presentation.divide_by s +ℤ worth config.presentation column ss) (worth config.presentation column ss)
   worth_if true s ss = refl
   worth_if false s ss = refl
 
-  left_values : (ss : List Sample) → worth config column (filtered_samples p f config.filtering ss) ≡ sum_where has_frames (seen_samples p f config column ss) +ℤ worth config column (bares ss)
+  left_values : (ss : List Sample) → worth config.presentation column (filtered_samples p f config.filtering ss) ≡ sum_where has_frames (seen_samples p f config column ss) +ℤ worth config.presentation column (bares ss)
   left_values [] = refl
   left_values (s ∷ ss) =
       let v : ℤ = selected column config.presentation.divide_by s in
       let left : List Sample = filtered_samples p f config.filtering ss in
-      elim (filtered_stack p f config.filtering s) as (λ (o : Option (List Frame)). worth config column (cond (is_some o) (s ∷ left) left)
+      elim (filtered_stack p f config.filtering s) as (λ (o : Option (List Frame)). worth config.presentation column (cond (is_some o) (s ∷ left) left)
       ≡ sum_where has_frames (cons_option (option_map (seen_with p config column s) o) (seen_samples p f config column ss))
-      +ℤ worth config column (cond (option_map_or (λ x. not (int_eq x.value (pos 0)) && has_no_items x.keys) (option_map (seen_with p config column s) o) false) (s ∷ bares ss) (bares ss))) [
+      +ℤ worth config.presentation column (cond (option_map_or (λ x. not (int_eq x.value (pos 0)) && has_no_items x.keys) (option_map (seen_with p config column s) o) false) (s ∷ bares ss) (bares ss))) [
         | None ↦ left_values ss
         | Some stack ↦
             let keys : List Written = (seen_with p config column s stack).keys in
-            bare_or_not (has_no_items keys) (int_eq v (pos 0)) v (worth config column left) (worth config column (bares ss)) (sum_where has_frames (seen_samples p f config column ss))
+            bare_or_not (has_no_items keys) (int_eq v (pos 0)) v (worth config.presentation column left) (worth config.presentation column (bares ss)) (sum_where has_frames (seen_samples p f config column ss))
             ((Decides-int_eq v (pos 0)).0) (left_values ss)
             ∙ ap (λ z. (cond (has_frames keys) v (pos 0) +ℤ sum_where has_frames (seen_samples p f config column ss)) +ℤ z) (sym (worth_if (not (int_eq v (pos 0)) && has_no_items keys) s (bares ss)))
       ]
@@ -370,4 +370,4 @@ module _ (p : Profile) (f : Finders) (config : Config) (column : Option ℕ) whe
 pub values_add_up : ValuesAddUp
 values_add_up p f config column =
     left_values p f config column p.sample
-    ∙ ap (λ z. z +ℤ worth config column (bare_samples p f config column p.sample)) (sym (all_counted p f config column))
+    ∙ ap (λ z. z +ℤ worth config.presentation column (bare_samples p f config column p.sample)) (sym (all_counted p f config column))

@@ -28,10 +28,9 @@ use Rattle.pp_source.specs.Amounts.{source_line, routine_of}
 use Rattle.pp_source.specs.Found.{IsFoundOf, is_among_keys, has_own_function}
 use Rattle.pp_source.specs.Tally.{new_number, IsTallyBy}
 
--- the configuration under which the lines of frames are counted
-abbrev pub by_lines : Config → Config
-by_lines config =
-    record config { grouping = record config.grouping { grain = Lines; showcolumns = false } }
+-- what a key is where the lines of frames are counted
+abbrev pub by_lines : Grouping → Grouping
+by_lines grouping = record grouping { grain = Lines; showcolumns = false }
 
 -- What a walk looks at belongs together.
 pub record IsSoundWalk (walk : Walk) : Type 0 where

@@ -119,7 +119,7 @@ pub frames_above : (p : Profile) (f : Finders) (config : Config) (column : Optio
     → NoneNegative (seen_samples p f config column p.sample) → NoneNegative (report_frames p f config column)
 frames_above p f config column none =
     none_weighed (framed_samples p f config column p.sample)
-    (none_renamed (key_of_written config) (framed_samples p f config column p.sample) (subst NoneNegative (sym (keyed_frames p f config column p.sample)) none))
+    (none_renamed (key_of_written config.grouping) (framed_samples p f config column p.sample) (subst NoneNegative (sym (keyed_frames p f config column p.sample)) none))
 
 -- tests that pass alike
 pub alike : (a b : Bool) → (a ≡ true → b ≡ true) → (b ≡ true → a ≡ true) → a ≡ b
