@@ -18,7 +18,7 @@ use crate::portions::Portions;
 use itoa::Buffer;
 use pp_base::{Memory, Text};
 use pp_count::Survey;
-use pp_model::{Config, Slot};
+use pp_model::{Filtering, Slot};
 use pp_units::{Head, put_right};
 use std::alloc::Global;
 
@@ -102,7 +102,7 @@ fn put_filter_row(
         return Ok(());
     }
     room.name.clear();
-    put_filter_name(survey.config, slot, &mut room.name)?;
+    put_filter_name(&survey.config.filtering, slot, &mut room.name)?;
     put_row(
         portions.at(slot),
         room.name.as_slice(),
@@ -113,26 +113,26 @@ fn put_filter_row(
 }
 
 // The filter's variable and the value of that.
-fn put_filter_name(config: &Config, slot: Slot, out: &mut Text) -> Result<(), Memory>
-    ensures { IfOk result (λ _. out.new ≡ out.old ++ filter_name config.now.filtering slot) }
+fn put_filter_name(filtering: &Filtering, slot: Slot, out: &mut Text) -> Result<(), Memory>
+    ensures { IfOk result (λ _. out.new ≡ out.old ++ filter_name filtering.now slot) }
 {
     out.extend(slot.name())?;
     out.extend(b"=")?;
-    out.extend(filter_text(config, slot))
+    out.extend(filter_text(filtering, slot))
 }
 
 // The value of the filter's variable.
-fn filter_text(config: &Config, slot: Slot) -> &[u8]
-    ensures { result.now ≡ filter_text config.now.filtering slot }
+fn filter_text(filtering: &Filtering, slot: Slot) -> &[u8]
+    ensures { result.now ≡ filter_text filtering.now slot }
 {
     match slot {
-        Slot::Ignore => config.filtering.ignore.as_slice(),
-        Slot::Focus => config.filtering.focus.as_slice(),
-        Slot::Hide => config.filtering.hide.as_slice(),
-        Slot::Show => config.filtering.show.as_slice(),
-        Slot::ShowFrom => config.filtering.show_from.as_slice(),
-        Slot::TagFocus => config.filtering.tagfocus.as_slice(),
-        Slot::TagIgnore => config.filtering.tagignore.as_slice(),
+        Slot::Ignore => filtering.ignore.as_slice(),
+        Slot::Focus => filtering.focus.as_slice(),
+        Slot::Hide => filtering.hide.as_slice(),
+        Slot::Show => filtering.show.as_slice(),
+        Slot::ShowFrom => filtering.show_from.as_slice(),
+        Slot::TagFocus => filtering.tagfocus.as_slice(),
+        Slot::TagIgnore => filtering.tagignore.as_slice(),
         Slot::PruneFrom | Slot::TagShow | Slot::TagHide | Slot::Own => b"",
     }
 }

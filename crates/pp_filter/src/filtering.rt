@@ -98,7 +98,7 @@ fn filter<R: Threads + Sync, D: Desk>(
     ensures saved { IfOk result (SavesFiltered D.finds profile config.now) }
 {
     let l = load(alloc, profile, desk)?;
-    let framed = framed_for(alloc, HashKeys::fixed(), &l, config)?;
+    let framed = framed_for(alloc, HashKeys::fixed(), &l, &config.presentation)?;
     filter_loaded(rt, alloc, basis(&framed, &l), config, desk)
 }
 
@@ -118,7 +118,7 @@ fn filter_loaded<R: Threads + Sync, D: Desk>(
 {
     // A profile's texts are distinct, so that verdicts on them tell what is found.
     let _profile = l.profile.get();
-    let v = verdicts(alloc, l, config, desk)?;
+    let v = verdicts(alloc, l, &config.filtering, desk)?;
     let saved = save(rt, alloc, l, &v, config)?;
     Ok(saved)
 }

@@ -205,7 +205,7 @@ fn figures_by<R: Threads + Sync>(
         IfOk result (λ figures. HasEdgesBy s.l.now.profile f s.config.now s.column figures.edges) }
 {
     let (l, counted) = (survey.l, survey.counted);
-    let limit = limit_of(survey.config);
+    let limit = limit_of(&survey.config.presentation);
     let ranked = rank_all(alloc, l, counted, survey.config, limit)?;
     let rows = rows_of(alloc, l, &counted.sums, ranked.order.as_slice())?;
     let edges = row_edges(rt, alloc, survey, ranked.order.as_slice())?;
@@ -220,10 +220,10 @@ fn figures_by<R: Threads + Sync>(
     )
 }
 
-fn limit_of(config: &Config) -> u32
-    ensures { result ≡ node_limit config.now.presentation.nodecount 0 }
+fn limit_of(presentation: &Presentation) -> u32
+    ensures { result ≡ node_limit presentation.now.nodecount 0 }
 {
-    node_limit(config.presentation.nodecount, 0)
+    node_limit(presentation.nodecount, 0)
 }
 
 // The table with these rows.

@@ -30,7 +30,7 @@ pub fn compare<R: Threads + Sync, G: Gate>(
 {
     let survey = &subject.survey;
     let (alloc, config) = (with.alloc, survey.config);
-    let limit = limit_of(config, 0);
+    let limit = limit_of(&config.presentation, 0);
     let ranked = rank(alloc, survey.l, survey.counted, config, limit)?;
     let base = base_sums(with.rt, alloc, survey, with.gate)?;
     let mut text = Text::new(alloc);
@@ -50,7 +50,7 @@ pub fn changes<R: Threads + Sync, G: Gate>(
 {
     let survey = &subject.survey;
     let (alloc, config) = (with.alloc, survey.config);
-    let limit = limit_of(config, 0);
+    let limit = limit_of(&config.presentation, 0);
     let ranked = rank_all(alloc, survey.l, survey.counted, config, limit)?;
     let base = base_sums(with.rt, alloc, survey, with.gate)?;
     let unit = unit_text(survey.l.profile.get(), survey.column);

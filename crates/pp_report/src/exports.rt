@@ -43,7 +43,7 @@ pub fn table(alloc: Global, survey: &Survey<'_>) -> Result<Text, Memory>
         (node_limit s.config.now.presentation.nodecount 0) (unit_text s.l.now.profile s.column)) }
 {
     let (l, counted) = (survey.l, survey.counted);
-    let limit = limit_of(survey.config, 0);
+    let limit = limit_of(&survey.config.presentation, 0);
     let ranked = rank_all(alloc, l, counted, survey.config, limit)?;
     let unit = unit_text(l.profile.get(), survey.column);
     let mut text = Text::new(alloc);

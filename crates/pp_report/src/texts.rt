@@ -25,7 +25,7 @@ use pp_base::{Gate, MatchRefusal, Memory, Text};
 use pp_count::Survey;
 use pp_dump::{saved_profile, write_raw};
 use pp_graph::{node_limit, rank, trim};
-use pp_model::{Compact, Config, Loaded};
+use pp_model::{Compact, Loaded, Presentation};
 use pp_samples::{write_comments, write_tags_of, write_traces_of};
 use pp_steal::Resources;
 use pp_tables::write_profile_on;
@@ -50,7 +50,7 @@ pub fn top(alloc: Global, subject: &Subject<'_, '_>) -> Result<Text, Memory>
         (node_limit s.config.now.presentation.nodecount 0) (facts subject.now.head.now)) }
 {
     let s = &subject.survey;
-    let limit = limit_of(s.config, 0);
+    let limit = limit_of(&s.config.presentation, 0);
     let ranked = rank(alloc, s.l, s.counted, s.config, limit)?;
     let mut text = Text::new(alloc);
     write_top(alloc, s.l, s.counted, &ranked, subject.head, &mut text)?;
@@ -65,7 +65,7 @@ pub fn account(alloc: Global, subject: &Subject<'_, '_>) -> Result<Text, Memory>
         (node_limit s.config.now.presentation.nodecount 0) (facts subject.now.head.now)) }
 {
     let s = &subject.survey;
-    let limit = limit_of(s.config, 0);
+    let limit = limit_of(&s.config.presentation, 0);
     let mut text = Text::new(alloc);
     write_account(alloc, s, limit, subject.head, &mut text)?;
     Ok(text)
@@ -82,7 +82,7 @@ pub fn tree<R: Threads + Sync, G: Gate>(
         (node_limit s.config.now.presentation.nodecount TREE_NODES) (facts subject.now.head.now)) }
 {
     let (alloc, s) = (with.alloc, &subject.survey);
-    let limit = limit_of(s.config, TREE_NODES);
+    let limit = limit_of(&s.config.presentation, TREE_NODES);
     let trimmed = trim(with.rt, alloc, s, limit, with.gate)?;
     let mut text = Text::new(alloc);
     write_tree(alloc, s.l, s.counted, &trimmed, subject.head, &mut text)?;
@@ -90,10 +90,10 @@ pub fn tree<R: Threads + Sync, G: Gate>(
 }
 
 /// The most nodes of a report that has this limit of its own, where 0 is none.
-pub fn limit_of(config: &Config, own: u32) -> u32
-    ensures { result ≡ node_limit config.now.presentation.nodecount own }
+pub fn limit_of(presentation: &Presentation, own: u32) -> u32
+    ensures { result ≡ node_limit presentation.now.nodecount own }
 {
-    node_limit(config.presentation.nodecount, own)
+    node_limit(presentation.nodecount, own)
 }
 
 /// The peek report, or `NoMatch` where its pattern finds nothing.
@@ -171,7 +171,7 @@ pub fn raw<R: Threads + Sync, G: Gate>(
         HoldsFilters s.l.now s.v.now s.config.now.filtering f →
         IfOk result (λ text. text ≡ raw_text (saved s.l.now.profile f s.config.now.filtering)) }
 {
-    let with = with.resources(survey.config);
+    let with = with.resources(&survey.config.environment);
     let saved = saved(&with, survey)?;
     let mut text = Text::new(with.alloc);
     write_raw(&with, &saved, &mut text)?;
@@ -198,7 +198,7 @@ pub fn proto<R: Threads + Sync, G: Gate>(
 {
     // The profile keeps the table rules.
     let _profile = survey.l.profile.get();
-    let with = with.resources(survey.config);
+    let with = with.resources(&survey.config.environment);
     let saved = saved(&with, survey)?;
     write_profile_on(&with, saved.valid())
 }
