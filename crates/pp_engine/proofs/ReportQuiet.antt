@@ -67,23 +67,23 @@ module _ (test : Step → Bool) where
     only_present [] = tt
     only_present (path ∷ paths) = (reads path SOURCE_LIMIT, λ content. only_or (first_present paths) (source_found content) (only_present paths))
 
-    only_source : (config : Config) (file : List ℕ) → Only test (source_of config.environment file)
+    only_source : (environment : Environment) (file : List ℕ) → Only test (source_of environment file)
     unfolding source_of
-    only_source.environment config [] = tt
-    only_source config (b ∷ file) = only_present _
+    only_source environment [] = tt
+    only_source environment (b ∷ file) = only_present _
 
     only_sources : (config : Config) (sources : List Source) (files : List (List ℕ)) → Only test (read_sources config.environment sources files)
     unfolding read_sources
-    only_sources.environment config sources [] = tt
-    only_sources config sources (file ∷ files) = only_then test (source_of config.environment file) _ (only_source config file) (λ source. only_sources config (sources ++ source ∷ []) files)
+    only_sources config sources [] = tt
+    only_sources config sources (file ∷ files) = only_then test (source_of config.environment file) _ (only_source config.environment file) (λ source. only_sources config (sources ++ source ∷ []) files)
 
     only_lines : (config : Config) (samples : List (Seen Written)) (h : Facts) (lines : List Written) → Only test (list_lines config.environment samples h lines)
     unfolding list_lines
-    only_lines.environment config samples h lines = only_then test (read_sources config.environment [] (files_of_lines lines)) _ (only_sources config [] (files_of_lines lines)) (λ sources. tt)
+    only_lines config samples h lines = only_then test (read_sources config.environment [] (files_of_lines lines)) _ (only_sources config [] (files_of_lines lines)) (λ sources. tt)
 
     only_found : (config : Config) (samples : List (Seen Written)) (h : Facts) (lines : List Written) → Only test (list_found config.environment samples h lines)
     unfolding list_found
-    only_found.environment config samples h lines = only_then test (list_lines config.environment samples h lines) _ (only_lines config samples h lines) (λ text. tt)
+    only_found config samples h lines = only_then test (list_lines config.environment samples h lines) _ (only_lines config samples h lines) (λ text. tt)
 
     only_if_found : (found : Bool) (p : Script (Option (List ℕ))) → Only test p → Only test (if found then p else Give None)
     only_if_found true p o = o
