@@ -5,6 +5,7 @@ use Rattle.pp_model.specs.declared.config.Config.{Config}
 use Rattle.pp_model.specs.declared.profile.Profile.{Profile}
 use Rattle.pp_model.specs.declared.verdicts.Slot.{Slot}
 use Rattle.pp_model.specs.declared.verdicts.Slot.TheVariants as slots
+use Rattle.pp_model.specs.declared.filtering.Filtering.{Filtering}
 use Rattle.pp_model.specs.Finders.{Finders}
 use Rattle.pp_model.specs.ReportFacts.{variable_name}
 use Rattle.pp_units.specs.Head.{Facts, facts_text}

@@ -83,7 +83,12 @@ fn add_sample(
         (is_bare w.l.now.profile f (config_of w) w.column s.now)
         (selected w.column w.config.now.presentation.divide_by s.now) portions.old) }
 {
-    let value = selected(scope.l, s, scope.column, scope.config.presentation.divide_by);
+    let value = selected(
+        scope.l,
+        s,
+        scope.column,
+        scope.config.presentation.divide_by,
+    );
     let is_kept = see(scope, s, &mut room.stack, &mut room.keys)?;
     let filter = filter_unless(scope, s, is_kept, &mut room.stack)?;
     portions.add(filter, is_bare(is_kept, value, &room.keys), value);

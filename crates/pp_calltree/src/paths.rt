@@ -95,7 +95,12 @@ fn add_sample(scope: &Scope, paths: &mut Paths, sample: &Sample, keys: &[u64]) -
         IfOk result (λ _. AreKeptAs paths.new (samples ++ rooted_if
         (selected scope.now.column scope.now.config.now.presentation.divide_by sample.now) keys.now)) }
 {
-    let value = selected(scope.l, sample, scope.column, scope.config.presentation.divide_by);
+    let value = selected(
+        scope.l,
+        sample,
+        scope.column,
+        scope.config.presentation.divide_by,
+    );
     add_path(paths, value, keys)
 }
 

@@ -4,10 +4,10 @@ use Rattle.std.specs.List.{range_with_len}
 use Rattle.std.proofs.lemmas.Simd.{map-map}
 use Rattle.std.proofs.lemmas.List.{map-append, append-nil, drop_more, drop_all}
 use Rattle.std.proofs.lemmas.List.Elements.{All-append}
-use Rattle.pp_model.specs.declared.config.Config.{Config}
 use Rattle.pp_model.specs.declared.frame.Frame.{Frame}
 use Rattle.pp_model.specs.declared.profile.Line.{Line}
 use Rattle.pp_model.specs.declared.profile.Profile.{Profile}
+use Rattle.pp_model.specs.declared.grouping.Grouping.{Grouping}
 use Rattle.pp_model.specs.Frames.{rows, row_frame, frames_from, lines_at}
 use Rattle.pp_model.specs.FrameTexts.{Written, written}
 use Rattle.pp_grain.specs.declared.key.Key.{Key}

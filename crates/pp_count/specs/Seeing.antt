@@ -7,6 +7,8 @@ use Rattle.pp_model.specs.declared.profile.Sample.{Sample}
 use Rattle.pp_model.specs.declared.profile.Profile.{Profile}
 use Rattle.pp_model.specs.declared.loaded.Loaded.{Loaded}
 use Rattle.pp_model.specs.declared.verdicts.Verdicts.{Verdicts}
+use Rattle.pp_model.specs.declared.grouping.Grouping.{Grouping}
+use Rattle.pp_model.specs.declared.filtering.Filtering.{Filtering}
 use Rattle.pp_model.specs.Finders.{Finders, HoldsFinders}
 use Rattle.pp_model.specs.FrameTexts.{Written, written}
 use Rattle.pp_grain.specs.Keys.{frame_counts, key_texts}

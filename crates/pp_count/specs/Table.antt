@@ -1,9 +1,9 @@
 -- The key numbers of the lines of each location.
 use Rattle.std.specs.Prelude.{◌≡◌, ℕ, ◌<◌, Bool, pos, List, [], length, map, slice_index_or, All, AllPairs, ◌≢◌}
 use Rattle.pp_base.specs.Front.{IsFront}
-use Rattle.pp_model.specs.declared.config.Config.{Config}
 use Rattle.pp_model.specs.declared.grouping.Grain.{Grain}
 use Rattle.pp_model.specs.declared.profile.Profile.{Profile}
+use Rattle.pp_model.specs.declared.grouping.Grouping.{Grouping}
 use Rattle.pp_model.specs.Frames.{rows, lines_at}
 use Rattle.pp_model.specs.FrameTexts.{Written, written}
 use Rattle.pp_grain.specs.declared.key.Key.{Key}

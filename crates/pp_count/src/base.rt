@@ -18,7 +18,7 @@ use crate::total::is_base;
 use crate::value::selected;
 use crate::waves::count_all;
 use pp_base::{Gate, List, Memory};
-use pp_model::{Config, Loaded, Profile};
+use pp_model::{Loaded, Presentation, Profile};
 use std::alloc::Global;
 use std::mem;
 use std::thread::Threads;
@@ -171,7 +171,12 @@ pub fn counted_whole(survey: &Survey<'_>) -> i64
 }
 
 // The sum of the selected values of the samples with these numbers.
-fn selected_sum(l: &Loaded, presentation: &Presentation, column: Option<u32>, numbers: &[u32]) -> i64
+fn selected_sum(
+    l: &Loaded,
+    presentation: &Presentation,
+    column: Option<u32>,
+    numbers: &[u32],
+) -> i64
     requires fits { absolute_all column presentation.now.divide_by l.now.profile.sample < 2 ^ 63 }
     requires rising { AreRisingBetween 0 (length l.now.profile.sample) numbers.now }
     ensures value { result

@@ -8,7 +8,7 @@ ghost use Rattle.pp_model.specs.Conditions.{IsColumnOf};
 ghost use Rattle.pp_model.specs.Lookup.{text_of};
 ghost use Rattle.pp_count.specs.Column.{column_of, default_column, column_named, column_at, type_named};
 
-use pp_model::{Config, Loaded, Profile, text_of};
+use pp_model::{Loaded, Presentation, Profile, text_of};
 use thiserror::Error;
 
 /// No sample type has the number or the name that `sample_index` asks for.

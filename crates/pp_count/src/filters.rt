@@ -9,7 +9,7 @@ ghost use Rattle.pp_stack.specs.Tables.{AreTables, FitsPattern};
 ghost use Rattle.pp_count.specs.Filters.{AreFilters, AreReached, IsReach};
 
 use pp_base::Memory;
-use pp_model::{Config, Loaded, Verdicts};
+use pp_model::{Filtering, Loaded, Verdicts};
 use pp_stack::{VerdictTable, VerdictTables};
 use pp_tags::TagFilter;
 use std::alloc::Global;
@@ -45,7 +45,12 @@ pub struct PatternReach {
 
 impl Filters {
     /// The filters with a table for each pattern in force, for all samples of the profile. `Err` is want of memory.
-    pub fn new(alloc: Global, l: &Loaded, v: &Verdicts, filtering: &Filtering) -> Result<Filters, Memory>
+    pub fn new(
+        alloc: Global,
+        l: &Loaded,
+        v: &Verdicts,
+        filtering: &Filtering,
+    ) -> Result<Filters, Memory>
         requires verdicts { HasVerdicts l.now.profile v.now }
         requires focus { HasItsTags l.now.profile v.now.tag (filter_in_force filtering.now.tagfocus) }
         requires ignore { HasItsTags l.now.profile v.now.tag (filter_in_force filtering.now.tagignore) }

@@ -142,7 +142,12 @@ fn add_samples(
         let place = first + index;
         let sample = sample_at(scope, place as usize);
         let left = see(scope, sample, &mut stack, &mut keys)?;
-        let value = selected(scope.l, sample, scope.column, scope.config.presentation.divide_by);
+        let value = selected(
+            scope.l,
+            sample,
+            scope.column,
+            scope.config.presentation.divide_by,
+        );
         *totals = totals.plus(totals_of(scope, sample, value, left));
         if left {
             let turn = index as u64 + 1;

@@ -8,7 +8,7 @@ use crate::filters::Filters;
 use crate::pairs::Pairing;
 use crate::table::KeyTable;
 use pp_keys::HashKeys;
-use pp_model::{Config, Loaded, Sample, Verdicts};
+use pp_model::{Config, Grouping, Loaded, Sample, Verdicts};
 
 /// What all pieces of a count share.
 #[derive(Clone, Copy)]

@@ -11,7 +11,7 @@ use crate::rows::Rows;
 use pp_base::{List, Memory};
 use pp_grain::{Key, Names, key_of};
 use pp_keys::HashKeys;
-use pp_model::{Config, Frame, Loaded, Stack};
+use pp_model::{Frame, Grouping, Loaded, Stack};
 use std::alloc::Global;
 use std::mem;
 

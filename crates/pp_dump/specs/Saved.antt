@@ -1,10 +1,10 @@
 -- The profile that the raw and proto reports show: what the filters of a report leave of a profile.
 use Rattle.std.specs.Prelude.{ℤ, List, map, option_map}
 use Rattle.std.specs.List.{filter_map}
-use Rattle.pp_model.specs.declared.config.Config.{Config}
 use Rattle.pp_model.specs.declared.frame.Frame.{Frame}
 use Rattle.pp_model.specs.declared.profile.Sample.{Sample}
 use Rattle.pp_model.specs.declared.profile.Profile.{Profile}
+use Rattle.pp_model.specs.declared.filtering.Filtering.{Filtering}
 use Rattle.pp_model.specs.Finders.{Finders}
 use Rattle.pp_model.specs.Lookup.{text_of}
 use Rattle.pp_tags.specs.TagFilters.{shown_labels}

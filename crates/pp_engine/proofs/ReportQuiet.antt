@@ -10,6 +10,7 @@ use Rattle.pp_model.specs.declared.profile.Profile.{Profile}
 use Rattle.pp_model.specs.declared.report.BaseKind.{BaseKind}
 use Rattle.pp_model.specs.declared.report.Report.{Report}
 use Rattle.pp_model.specs.declared.report.Report.TheVariants as reports
+use Rattle.pp_model.specs.declared.environment.Environment.{Environment}
 use Rattle.pp_model.specs.Finders.{Finders}
 use Rattle.pp_units.specs.Head.{Facts}
 use Rattle.pp_count.specs.Counted.{has_own_match}

@@ -44,7 +44,14 @@ pub fn rank(
         IsCountedOf l.now v config.now column counted.now →
         IfOk result (IsRankedOf l.now v config.now column limit counted.now) }
 {
-    rank_by(alloc, l, counted, config.presentation.sort, config.presentation.nodefraction, limit)
+    rank_by(
+        alloc,
+        l,
+        counted,
+        config.presentation.sort,
+        config.presentation.nodefraction,
+        limit,
+    )
 }
 
 /// Ranks all keys, however light, and keeps the first `limit` of them, all for 0. Report order is that of `rank`.

@@ -15,6 +15,7 @@ use Rattle.pp_model.specs.declared.profile.Profile.{Profile}
 use Rattle.pp_model.specs.declared.verdicts.Slot.{Slot}
 use Rattle.pp_model.specs.declared.verdicts.Slot.TheVariants as slots
 use Rattle.pp_model.specs.declared.filtering.Filtering.{Filtering}
+use Rattle.pp_model.specs.declared.presentation.Presentation.{Presentation}
 use Rattle.pp_model.specs.Finders.{Finder, Finders}
 use Rattle.pp_model.specs.Frames.{stack_of}
 use Rattle.pp_model.specs.FrameTexts.{Written, written}

@@ -1,13 +1,13 @@
 -- The patterns of a report: in which order they are asked, and what their verdicts are.
 use Rattle.std.specs.Option.{option_map_or}
 use Rattle.std.specs.Prelude.{◌≡◌, ℕ, Bool, List, [], map, Option, None, Some, Ok, option_map, unwrap_or}
-use Rattle.pp_model.specs.declared.config.Config.{Config}
 use Rattle.pp_model.specs.declared.profile.Profile.{Profile}
 use Rattle.pp_model.specs.declared.verdicts.Slot.{Slot}
 use Rattle.pp_model.specs.declared.verdicts.Slot.TheVariants.{Focus, Ignore, Hide, Show, ShowFrom, TagFocus, TagIgnore, PruneFrom, TagShow, TagHide, Own}
 use Rattle.pp_model.specs.declared.verdicts.Tag.{Tag}
 use Rattle.pp_model.specs.declared.verdicts.Verdicts.{Verdicts}
 use Rattle.pp_model.specs.declared.loaded.Loaded.{Loaded}
+use Rattle.pp_model.specs.declared.filtering.Filtering.{Filtering}
 use Rattle.pp_model.specs.Conditions.{HasVerdicts}
 use Rattle.pp_model.specs.Finders.{Finder, Finders, TagFinders, HoldsFinders}
 use Rattle.pp_model.specs.Judged.{judged}

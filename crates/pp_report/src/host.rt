@@ -2,7 +2,6 @@
 
 use pp_keys::HashKeys;
 use pp_model::Environment;
-
 use pp_steal::Resources;
 use std::alloc::Global;
 

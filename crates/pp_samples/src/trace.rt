@@ -98,7 +98,12 @@ fn write_own_value(t: &Traces, s: &Sample, text: &mut Text) -> Result<(), Memory
 {
     text.clear();
     let scope = &t.scope;
-    let value = selected(scope.l, s, scope.column, scope.config.presentation.divide_by);
+    let value = selected(
+        scope.l,
+        s,
+        scope.column,
+        scope.config.presentation.divide_by,
+    );
     put_value(value, t.unit, text)
 }
 

@@ -3,6 +3,7 @@ use Rattle.std.specs.Prelude.{◌≡◌, ◌<◌, ◌^◌, pos, ◌≤ℤ◌, tr
 use Rattle.std.specs.List.{AllByRecursion, list_any}
 use Rattle.pp_model.specs.declared.config.Config.{Config}
 use Rattle.pp_model.specs.declared.profile.Profile.{Profile}
+use Rattle.pp_model.specs.declared.presentation.Presentation.{Presentation}
 use Rattle.pp_model.specs.Defaults.{standard_filtering}
 use Rattle.pp_model.specs.Finders.{Finders, no_finders}
 use Rattle.pp_model.specs.Rules.{NoRuleFails}

@@ -6,6 +6,7 @@ use Rattle.pp_model.specs.declared.profile.Profile.{Profile}
 use Rattle.pp_model.specs.declared.report.BaseKind.{BaseKind}
 use Rattle.pp_model.specs.declared.report.Report.{Report}
 use Rattle.pp_model.specs.declared.report.Report.TheVariants as reports
+use Rattle.pp_model.specs.declared.presentation.Presentation.{Presentation}
 use Rattle.pp_model.specs.Conditions.{IsColumnOf}
 use Rattle.pp_pattern.specs.Report.{Finds}
 use Rattle.pp_pseudo.specs.KeyList.{key_list}

@@ -5,6 +5,7 @@ use Rattle.pp_desk.specs.declared.file_content.FileContent.TheVariants as conten
 use Rattle.pp_desk.specs.Script.{Script, Give, ◌>>=◌, read_file}
 use Rattle.pp_model.specs.declared.config.Config.{Config}
 use Rattle.pp_model.specs.declared.profile.Profile.{Profile}
+use Rattle.pp_model.specs.declared.environment.Environment.{Environment}
 use Rattle.pp_model.specs.Finders.{Finders}
 use Rattle.pp_model.specs.FrameTexts.{Written}
 use Rattle.pp_units.specs.Head.{Facts}

@@ -16,7 +16,6 @@ use pp_base::{List, Memory};
 use pp_desk::{Desk, Stop};
 use pp_keys::HashKeys;
 use pp_model::Environment;
-
 use std::alloc::Global;
 
 /// The sources of files, each of which is read once.

@@ -124,7 +124,12 @@ fn list_lines<D: Desk>(
         samples (facts listing.now.head.now) (lines_texts lines.now)) result }
 {
     let files = files_of(alloc, listing.survey.hash_keys(), lines)?;
-    match read_sources(alloc, &listing.survey.config.environment, files.as_slice(), desk) {
+    match read_sources(
+        alloc,
+        &listing.survey.config.environment,
+        files.as_slice(),
+        desk,
+    ) {
         Ok(sources) => {
             let text = text_of_files(alloc, listing, files, sources.as_slice(), lines);
             mem::drop(sources);

@@ -8,7 +8,6 @@ use crate::source::{SOURCE_LIMIT, Source};
 use pp_base::Text;
 use pp_desk::{Desk, FileContent, Stop};
 use pp_model::Environment;
-
 use std::alloc::Global;
 
 /// Reads the source of the file from the first of its paths at which there is a file. Nothing is read for an empty

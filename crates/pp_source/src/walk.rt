@@ -104,7 +104,12 @@ fn add_seen(
         sums.old.routines sums.new.routines) }
 {
     let scope = &walk.scope;
-    let value = selected(scope.l, sample, scope.column, scope.config.presentation.divide_by);
+    let value = selected(
+        scope.l,
+        sample,
+        scope.column,
+        scope.config.presentation.divide_by,
+    );
     add_found(walk.lines, value, keys, turn, room, &mut sums.lines)?;
     add_found(walk.routines, value, keys, turn, room, &mut sums.routines)
 }

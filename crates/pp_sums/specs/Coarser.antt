@@ -3,6 +3,7 @@ use Rattle.std.specs.Prelude.{◌≡◌, ℕ, ◌<◌, ◌^◌, true, List, [], 
 use Rattle.std.specs.List.{AllByRecursion}
 use Rattle.pp_model.specs.declared.config.Config.{Config}
 use Rattle.pp_model.specs.declared.profile.Profile.{Profile}
+use Rattle.pp_model.specs.declared.grouping.Grouping.{Grouping}
 use Rattle.pp_model.specs.Finders.{Finders}
 use Rattle.pp_merge.specs.Merge.{merged}
 use Rattle.pp_count.specs.Column.{column_of}
@@ -27,7 +28,7 @@ abbrev pub passed_on : Kept → Profile → Profile
 passed_on keep p = merged (aggregated keep p) []
 
 -- The report looks at nothing that is dropped: not by its keys, not by its patterns, and not at an inlined frame.
-pub record LooksAtNothing (keep : Kept) (p : Profile) (f : Finders) (grouping : Grouping).grouping : Type 0 where
+pub record LooksAtNothing (keep : Kept) (p : Profile) (f : Finders) (grouping : Grouping) : Type 0 where
   pub frames : FramesStay keep p f grouping
   pub keys : keeps_keys keep grouping.grain grouping.showcolumns ≡ true
 

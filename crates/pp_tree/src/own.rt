@@ -118,7 +118,13 @@ fn add_sample(
     let Some(sample) = samples.get(number as usize) else {
         return Ok(());
     };
-    if selected(asked.l, sample, asked.column, asked.config.presentation.divide_by) == 0 {
+    if selected(
+        asked.l,
+        sample,
+        asked.column,
+        asked.config.presentation.divide_by,
+    ) == 0
+    {
         return Ok(());
     }
     if !filter_into(asked.l, asked.v, tables, sample, stack)? {
@@ -172,7 +178,12 @@ fn add_frame(
     if !is_own(asked, frame) {
         return Ok(());
     }
-    let key = key_of(asked.l, frame, config.grouping.grain, config.grouping.showcolumns);
+    let key = key_of(
+        asked.l,
+        frame,
+        config.grouping.grain,
+        config.grouping.showcolumns,
+    );
     keys.insert(key)?;
     Ok(())
 }
