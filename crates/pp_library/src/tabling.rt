@@ -23,7 +23,7 @@ use pp_desk::{MatcherDesk, Stop};
 use pp_grain::{Key, write_name};
 use pp_graph::{node_limit, rank_all};
 use pp_keys::HashKeys;
-use pp_model::{Config, Loaded, Profile, Report};
+use pp_model::{Config, Loaded, Presentation, Profile, Report};
 use pp_pseudo::basis;
 use pp_report::{Counts, Host, Prepared, ReportRefusal, kind_text, prepare, unit_text};
 use std::alloc::Global;
