@@ -15,7 +15,7 @@ use Rattle.pp_count.specs.declared.scope.Scope.{Scope}
 use Rattle.pp_count.specs.Column.{selected}
 use Rattle.pp_count.specs.Counts.{samples_at}
 use Rattle.pp_count.specs.Rising.{AreRisingBetween}
-use Rattle.pp_count.specs.Scope.{profile_in_scope, config_of, chosen_of, samples_in_scope, size_of, IsSoundScope}
+use Rattle.pp_count.specs.Scope.{profile_in_scope, chosen_of, samples_in_scope, size_of, IsSoundScope}
 use Rattle.pp_count.proofs.Pieces.{all_refer, all_members}
 use Rattle.pp_count.proofs.Rising.{rising_below, samples_are, samples_length}
 
