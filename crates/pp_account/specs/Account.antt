@@ -49,7 +49,8 @@ abbrev pub filter_row : Profile → Finders → Config → Option ℕ → Slot �
 filter_row p f config column slot =
     if is_in_force f config.filtering slot
     then record {
-      portion = portion_of config.presentation column (dropped_samples p f config.filtering slot p.sample);
+      portion =
+          portion_of config.presentation column (dropped_samples p f config.filtering slot p.sample);
       name = filter_name config.filtering slot;
     } ∷ []
     else []
@@ -66,7 +67,8 @@ sample_rows p f config column =
     record { portion = portion_of config.presentation column p.sample; name = codes "loaded" }
     ∷ flat_map (filter_row p f config column) dropping
     ++ record {
-      portion = portion_of config.presentation column (filtered_samples p f config.filtering p.sample);
+      portion =
+          portion_of config.presentation column (filtered_samples p f config.filtering p.sample);
       name = codes "left";
     } ∷ bare_row (portion_of config.presentation column (bare_samples p f config column p.sample))
 

@@ -38,8 +38,10 @@ first_of_stack told f stack =
 -- The tag filter that is the first to drop the sample: tagfocus where it doesn't select it, tagignore where it does.
 abbrev pub first_of_tags : Profile → Finders → Filtering → Sample → Option Slot
 first_of_tags p f filtering s =
-    if not (selects_or true p (filter_in_force filtering.tagfocus) f.tagfocus s) then Some slots.TagFocus
-    else (if selects_or false p (filter_in_force filtering.tagignore) f.tagignore s then Some slots.TagIgnore
+    if not (selects_or true p (filter_in_force filtering.tagfocus) f.tagfocus s)
+    then Some slots.TagFocus
+    else (if selects_or false p (filter_in_force filtering.tagignore) f.tagignore s
+    then Some slots.TagIgnore
     else None)
 
 -- the first, and where there is none the second

@@ -23,7 +23,8 @@ portion_line h portion name = account_line h (record { portion = portion; name =
 -- the line of a filter, where it is in force
 abbrev pub filter_line : Finders → Filtering → PortionsOf → Facts → Slot → List ℕ
 filter_line f filtering d h slot =
-    if is_in_force f filtering slot then portion_line h (portion_at d slot) (filter_name filtering slot) else []
+    if is_in_force f filtering slot
+    then portion_line h (portion_at d slot) (filter_name filtering slot) else []
 
 -- the lines of the rows of samples
 abbrev pub sample_lines : Finders → Filtering → PortionsOf → Facts → List ℕ

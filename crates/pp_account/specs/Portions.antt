@@ -45,13 +45,20 @@ bare_samples p f config column samples = filter (is_bare p f config column) samp
 abbrev pub portions_of : Profile → Finders → Config → Option ℕ → List Sample → PortionsOf
 portions_of p f config column samples = record {
   loaded = portion_of config.presentation column samples;
-  ignore = portion_of config.presentation column (dropped_samples p f config.filtering slots.Ignore samples);
-  focus = portion_of config.presentation column (dropped_samples p f config.filtering slots.Focus samples);
-  hide = portion_of config.presentation column (dropped_samples p f config.filtering slots.Hide samples);
-  show = portion_of config.presentation column (dropped_samples p f config.filtering slots.Show samples);
-  show_from = portion_of config.presentation column (dropped_samples p f config.filtering slots.ShowFrom samples);
-  tagfocus = portion_of config.presentation column (dropped_samples p f config.filtering slots.TagFocus samples);
-  tagignore = portion_of config.presentation column (dropped_samples p f config.filtering slots.TagIgnore samples);
+  ignore = portion_of config.presentation column
+      (dropped_samples p f config.filtering slots.Ignore samples);
+  focus = portion_of config.presentation column
+      (dropped_samples p f config.filtering slots.Focus samples);
+  hide = portion_of config.presentation column
+      (dropped_samples p f config.filtering slots.Hide samples);
+  show = portion_of config.presentation column
+      (dropped_samples p f config.filtering slots.Show samples);
+  show_from = portion_of config.presentation column
+      (dropped_samples p f config.filtering slots.ShowFrom samples);
+  tagfocus = portion_of config.presentation column
+      (dropped_samples p f config.filtering slots.TagFocus samples);
+  tagignore = portion_of config.presentation column
+      (dropped_samples p f config.filtering slots.TagIgnore samples);
   left = portion_of config.presentation column (filtered_samples p f config.filtering samples);
   bare = portion_of config.presentation column (bare_samples p f config column samples);
 }

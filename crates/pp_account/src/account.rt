@@ -69,7 +69,8 @@ fn put_account(
     ensures { (f : Finders) →
         HoldsFilters survey.now.l.now survey.now.v.now survey.now.config.now.filtering f →
         IfOk result (λ _. out.new ≡ out.old
-        ++ account_lines f survey.now.config.now.filtering portions.now nodes.now (facts head.now)) }
+        ++ account_lines f survey.now.config.now.filtering portions.now nodes.now
+        (facts head.now)) }
 {
     write_head(alloc, head, out)?;
     put_heading(b"samples", out)?;

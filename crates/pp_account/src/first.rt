@@ -25,7 +25,8 @@ pub fn first_filter(scope: &Scope, s: &Sample, stack: &mut Stack) -> Result<Opti
     requires sound { IsSoundScope scope.now }
     requires member { IsSampleOf scope.now.l.now.profile s.now }
     requires refers { RefersTo scope.now.l.now.profile s.now }
-    ensures { let w = scope.now in (f : Finders) → HoldsFilters w.l.now w.v.now w.config.now.filtering f →
+    ensures { let w = scope.now in (f : Finders) →
+        HoldsFilters w.l.now w.v.now w.config.now.filtering f →
         IfOk result (λ slot. slot ≡ first_filter w.l.now.profile f w.config.now.filtering s.now) }
 {
     frames_into(scope.l, s, stack)?;
@@ -142,7 +143,8 @@ fn first_of_cut(l: &Loaded, v: &Verdicts, stack: &mut Stack) -> Option<Slot>
 fn first_of_tags(scope: &Scope, s: &Sample) -> Option<Slot>
     requires sound { IsSoundScope scope.now }
     requires member { IsSampleOf scope.now.l.now.profile s.now }
-    ensures { let w = scope.now in (f : Finders) → HoldsFilters w.l.now w.v.now w.config.now.filtering f →
+    ensures { let w = scope.now in (f : Finders) →
+        HoldsFilters w.l.now w.v.now w.config.now.filtering f →
         result ≡ first_of_tags w.l.now.profile f w.config.now.filtering s.now }
 {
     let (l, v, filters) = (scope.l, scope.v, scope.filters);

@@ -65,7 +65,8 @@ fn put_filter_rows(
     ensures { (f : Finders) →
         HoldsFilters survey.now.l.now survey.now.v.now survey.now.config.now.filtering f →
         IfOk result (λ _. out.new ≡ out.old
-        ++ flat_map (filter_line f survey.now.config.now.filtering portions.now (facts head.now)) dropping) }
+        ++ flat_map (filter_line f survey.now.config.now.filtering portions.now (facts head.now))
+        dropping) }
 {
     let mut room = RowRoom {
         name: Text::new(alloc),

@@ -53,7 +53,8 @@ fn add_samples(alloc: Global, scope: &Scope) -> Result<Portions, Memory>
     requires sound { IsSoundScope scope.now }
     requires countable { AreCountable scope.now scope.now.l.now.profile.sample }
     requires whole { scope.now.chosen ≡ None }
-    ensures { let w = scope.now in (f : Finders) → HoldsFilters w.l.now w.v.now w.config.now.filtering f →
+    ensures { let w = scope.now in (f : Finders) →
+        HoldsFilters w.l.now w.v.now w.config.now.filtering f →
         IfOk result (λ d. d
         ≡ portions_of w.l.now.profile f (config_of w) w.column w.l.now.profile.sample) }
 {
@@ -78,8 +79,10 @@ fn add_sample(
     requires sound { IsSoundScope scope.now }
     requires member { IsSampleOf scope.now.l.now.profile s.now }
     requires refers { RefersTo scope.now.l.now.profile s.now }
-    ensures { let w = scope.now in (f : Finders) → HoldsFilters w.l.now w.v.now w.config.now.filtering f →
-        IfOk result (λ _. portions.new ≡ with_sample (first_filter w.l.now.profile f w.config.now.filtering s.now)
+    ensures { let w = scope.now in (f : Finders) →
+        HoldsFilters w.l.now w.v.now w.config.now.filtering f →
+        IfOk result (λ _. portions.new
+        ≡ with_sample (first_filter w.l.now.profile f w.config.now.filtering s.now)
         (is_bare w.l.now.profile f (config_of w) w.column s.now)
         (selected w.column w.config.now.presentation.divide_by s.now) portions.old) }
 {
@@ -113,7 +116,8 @@ fn filter_unless(
     requires sound { IsSoundScope scope.now }
     requires member { IsSampleOf scope.now.l.now.profile s.now }
     requires refers { RefersTo scope.now.l.now.profile s.now }
-    ensures { let w = scope.now in (f : Finders) → HoldsFilters w.l.now w.v.now w.config.now.filtering f →
+    ensures { let w = scope.now in (f : Finders) →
+        HoldsFilters w.l.now w.v.now w.config.now.filtering f →
         is_kept ≡ is_some (filtered_stack w.l.now.profile f w.config.now.filtering s.now) →
         IfOk result (λ slot. slot ≡ first_filter w.l.now.profile f w.config.now.filtering s.now) }
 {

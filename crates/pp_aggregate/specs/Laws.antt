@@ -30,7 +30,8 @@ KeysStay =
 -- The same options match something, and the own pattern of a report finds a function where it found one.
 pub record AreLeft (keep : Kept) (p : Profile) (f : Finders) (config : Config) (column : Option ℕ) : Type 0 where
   pub numbers
-      : filtered_from (aggregated keep p) f config.filtering 0 p.sample ≡ filtered_from p f config.filtering 0 p.sample
+      : filtered_from (aggregated keep p) f config.filtering 0 p.sample
+      ≡ filtered_from p f config.filtering 0 p.sample
   pub total : total_of (aggregated keep p) f config column ≡ total_of p f config column
   pub frames
       : report_frames (aggregated keep p) f config column

@@ -93,7 +93,8 @@ fn add_sample(scope: &Scope, paths: &mut Paths, sample: &Sample, keys: &[u64]) -
     requires { IsSoundScope scope.now }
     ensures { (samples : Seq (Seen ℕ)) → AreKeptAs paths.old samples →
         IfOk result (λ _. AreKeptAs paths.new (samples ++ rooted_if
-        (selected scope.now.column scope.now.config.now.presentation.divide_by sample.now) keys.now)) }
+        (selected scope.now.column scope.now.config.now.presentation.divide_by sample.now)
+        keys.now)) }
 {
     let value = selected(
         scope.l,

@@ -72,7 +72,8 @@ figure sorts.Cum samples k = cum key_cmp samples k
 -- the sum of the selected values of those of the samples that the filters leave
 abbrev pub filtered_whole : Profile → Finders → Config → Option ℕ → List Sample → ℤ
 filtered_whole p f config column samples =
-    selected_all column config.presentation.divide_by (filtered_samples p f config.filtering samples)
+    selected_all column config.presentation.divide_by
+    (filtered_samples p f config.filtering samples)
 
 -- the row of all samples that the filters leave
 abbrev pub whole_row : Profile → Finders → Config → Option ℕ → ComparedRow
@@ -84,7 +85,8 @@ whole_row p f config column = record {
 -- the row of a key
 abbrev pub compared_row : Profile → Finders → Config → Option ℕ → Written → ComparedRow
 compared_row p f config column k = record {
-  figures = difference_of (figure config.presentation.sort (base_report_samples p f config column) k)
+  figures =
+      difference_of (figure config.presentation.sort (base_report_samples p f config column) k)
       (figure config.presentation.sort (report_samples p f config column) k);
   name = name_text k;
 }
@@ -97,5 +99,6 @@ compare_text p f config column limit h =
     facts_text h
     ++ (dropped_line lines.dropped_nodes (light_nodes p f config column)
     ++ limited_line (length keys) (length (candidate_keys p f config column)))
-    ++ compare_heading config.presentation.sort ++ difference_line h.unit (whole_row p f config column)
+    ++ compare_heading config.presentation.sort
+    ++ difference_line h.unit (whole_row p f config column)
     ++ flat_map (λ k. difference_line h.unit (compared_row p f config column k)) keys

@@ -28,7 +28,8 @@ use Rattle.pp_count.specs.Table.{key_numbered, IsKeyTable}
 
 -- What a report counts of a profile can be counted: samples and columns are few, sums
 -- fit, and verdicts, tags and column are those of the profile.
-pub record CanCount (p : Profile) (v : Verdicts) (filtering : Filtering) (of_column : Option ℕ) : Type 0 where
+pub record CanCount (p : Profile) (v : Verdicts) (filtering : Filtering) (of_column : Option ℕ)
+    : Type 0 where
   pub countable : IsCountable p
   pub column : IsColumnOf p of_column
   pub verdicts : HasVerdicts p v

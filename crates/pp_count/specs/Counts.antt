@@ -61,8 +61,10 @@ total_over p presentation column samples =
 -- The samples that percentages are taken of: all of these, or under relative_percentages those that the filters leave.
 abbrev pub samples_of_total : Profile → Finders → Config → List Sample → List Sample
 samples_of_total p f config samples =
-    if config.presentation.relative_percentages then filtered_samples p f config.filtering samples else samples
+    if config.presentation.relative_percentages then filtered_samples p f config.filtering samples
+    else samples
 
 -- what percentages are taken of
 abbrev pub total_of : Profile → Finders → Config → Option ℕ → ℕ
-total_of p f config column = total_over p config.presentation column (samples_of_total p f config p.sample)
+total_of p f config column =
+    total_over p config.presentation column (samples_of_total p f config p.sample)

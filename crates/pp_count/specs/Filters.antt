@@ -33,7 +33,8 @@ pub record AreReached (p : Profile) (v : Verdicts) (reach : PatternReach) : Type
 
 -- The tag filters are those of the configuration, with their tags, and the tables and what they reach are of the
 -- verdicts.
-pub record AreFilters (p : Profile) (v : Verdicts) (filtering : Filtering) (filters : Filters) : Type 0 where
+pub record AreFilters (p : Profile) (v : Verdicts) (filtering : Filtering) (filters : Filters)
+    : Type 0 where
   pub focus : filters.tagfocus ≡ filter_in_force filtering.tagfocus
   pub ignore : filters.tagignore ≡ filter_in_force filtering.tagignore
   pub focus_tags : HasItsTags p v.tag filters.tagfocus

@@ -20,4 +20,5 @@ pub record FitTags (p : Profile) (v : Verdicts) (filtering : Filtering) : Type 0
 abbrev pub VerdictsAreFound : Type 0
 VerdictsAreFound =
     (l : Loaded) (v : Verdicts) (config : Config) (column : Option ℕ) → NoRuleFails l.profile → IsCompact l.profile
-    → CanCount l.profile v config.filtering column → FitTags l.profile v config.filtering → (f : Finders) × HoldsFilters l v config.filtering f
+    → CanCount l.profile v config.filtering column → FitTags l.profile v config.filtering
+    → (f : Finders) × HoldsFilters l v config.filtering f

@@ -50,7 +50,8 @@ pub record IsRangePart (l : Loaded) (v : Verdicts) (config : Config) (column : O
       → AreNamedSums l.profile names (weighed (seen_samples l.profile f config column samples)) part.sums
   pub matched : (f : Finders) → HoldsFilters l v config.filtering f
       → part.matched.slots ≡ matches_among l.profile f config.filtering samples
-  pub within : (k : ℕ) → AreWithin (absolute_all column config.presentation.divide_by samples) (sums_of k part.sums)
+  pub within : (k : ℕ)
+      → AreWithin (absolute_all column config.presentation.divide_by samples) (sums_of k part.sums)
 
 -- The parts are those of these ranges, one after the other, of which the first begins at this number.
 abbrev pub AreConsecutive : Loaded → Verdicts → Config → Option ℕ → List Key → ℕ → List (List Sample) → List Part → Type 0

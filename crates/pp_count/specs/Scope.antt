@@ -47,7 +47,8 @@ samples_in_scope scope = option_map_or (samples_at (profile_in_scope scope)) (ch
 -- The verdicts, the filters and the table are those of the profile and the configuration. Samples that are chosen are
 -- the profile's, each once.
 pub record IsSoundScope (scope : Scope) : Type 0 where
-  pub filters : AreFilters (profile_in_scope scope) scope.v.now scope.config.now.filtering scope.filters.now
+  pub filters : AreFilters
+      (profile_in_scope scope) scope.v.now scope.config.now.filtering scope.filters.now
   pub verdicts : HasVerdicts (profile_in_scope scope) scope.v.now
   pub table : IsKeyTable (profile_in_scope scope) scope.grouping scope.table.now
   pub few_kept : MatchOption (over_of scope) ⊤ HasPairPlaces
@@ -77,13 +78,15 @@ counted_as scope s = record { value = s.value; keys = counted_keys (over_of scop
 -- The slots are the matches of these samples. Samples that are chosen are not searched.
 abbrev pub HasMatches : Scope → List Sample → List Bool → Type 0
 HasMatches scope samples slots =
-    scope.chosen ≡ None → (f : Finders) → HoldsFilters scope.l.now scope.v.now scope.config.now.filtering f
+    scope.chosen ≡ None → (f : Finders)
+    → HoldsFilters scope.l.now scope.v.now scope.config.now.filtering f
     → slots ≡ matches_among (profile_in_scope scope) f scope.config.now.filtering samples
 
 -- The sums are over those of these samples that percentages are taken of. Samples that are chosen are not added up.
 abbrev pub HasTotals : Scope → List Sample → Totals → Type 0
 HasTotals scope samples totals =
-    scope.chosen ≡ None → (f : Finders) → HoldsFilters scope.l.now scope.v.now scope.config.now.filtering f
+    scope.chosen ≡ None → (f : Finders)
+    → HoldsFilters scope.l.now scope.v.now scope.config.now.filtering f
     → AreTotals (profile_in_scope scope) scope.config.now.presentation scope.column
     (samples_of_total (profile_in_scope scope) f (config_of scope) samples) totals
 
@@ -94,7 +97,8 @@ pub record IsPartOf (scope : Scope) (number : ℕ) (samples : List Sample) (part
   pub are : AreSeen scope samples seen
   pub sums : AreKeySums (weighed (map (counted_as scope) seen)) part.sums
   pub kept : (f : Finders) → HoldsFilters scope.l.now scope.v.now scope.config.now.filtering f
-      → part.kept ≡ filtered_from (profile_in_scope scope) f scope.config.now.filtering number samples
+      → part.kept ≡ filtered_from
+      (profile_in_scope scope) f scope.config.now.filtering number samples
   pub rising : AreRisingBetween number (number + length samples) part.kept
   pub matched : HasMatches scope samples part.matched.slots
   pub totals : HasTotals scope samples part.totals

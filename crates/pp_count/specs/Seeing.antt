@@ -34,7 +34,8 @@ keys_of_stack p grouping stack =
     map (key_of_frame p grouping) (counted_frames grouping.noinlines stack)
 
 -- The verdicts of a report are what its patterns find: those on stacks, and the parts of its two tag filters.
-pub record HoldsFilters (l : Loaded) (v : Verdicts) (filtering : Filtering) (f : Finders) : Type 0 where
+pub record HoldsFilters (l : Loaded) (v : Verdicts) (filtering : Filtering) (f : Finders)
+    : Type 0 where
   pub found : HoldsFinders l v f
   pub tagfocus
       : AreTagVerdicts l.profile v.tag (filter_in_force filtering.tagfocus) f.tagfocus v.tagfocus
@@ -48,7 +49,8 @@ passes_tags p f filtering s =
 
 -- What the stack filters leave of the sample's stack. None where they or the tag filters drop the sample.
 abbrev pub filtered_stack : Profile → Finders → Filtering → Sample → Option (List Frame)
-filtered_stack p f filtering s = if passes_tags p f filtering s then frames_of_sample p f s else None
+filtered_stack p f filtering s =
+    if passes_tags p f filtering s then frames_of_sample p f s else None
 
 -- the sample with the frames of this stack that count, written out
 abbrev pub framed_with : Profile → Config → Option ℕ → Sample → List Frame → Seen Written
@@ -60,7 +62,8 @@ framed_with p config column s stack = record {
 -- The samples that the filters leave, in order, with their frames that count, written out, in the place of keys.
 abbrev pub framed_samples : Profile → Finders → Config → Option ℕ → List Sample → List (Seen Written)
 framed_samples p f config column samples =
-    filter_map (λ s. option_map (framed_with p config column s) (filtered_stack p f config.filtering s)) samples
+    filter_map (λ s. option_map (framed_with p config column s)
+    (filtered_stack p f config.filtering s)) samples
 
 -- the sample with this stack
 abbrev pub seen_with : Profile → Config → Option ℕ → Sample → List Frame → Seen Written

@@ -53,4 +53,5 @@ pub record AreRows (grain : Grain) (showcolumns : Bool) (p : Profile) (names : L
 
 -- The table has the key number of each line of each location, by the configuration's grain.
 abbrev pub IsKeyTable : Profile → Grouping → KeyTable → Type 0
-IsKeyTable p grouping table = AreRows grouping.grain grouping.showcolumns p table.names table.location
+IsKeyTable p grouping table =
+    AreRows grouping.grain grouping.showcolumns p table.names table.location

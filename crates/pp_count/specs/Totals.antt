@@ -10,9 +10,11 @@ use Rattle.pp_count.specs.Counts.{is_base}
 use Rattle.pp_count.specs.Seeing.{absolute_all}
 
 -- The sums are those over these samples.
-pub record AreTotals (p : Profile) (presentation : Presentation) (column : Option ℕ) (samples : List Sample) (t : Totals) : Type 0 where
+pub record AreTotals (p : Profile) (presentation : Presentation) (column : Option ℕ)
+    (samples : List Sample) (t : Totals) : Type 0 where
   pub all : t.all ≡ capped (absolute_all column presentation.divide_by samples)
-  pub base : t.base ≡ capped (absolute_all column presentation.divide_by (filter (is_base p) samples))
+  pub base : t.base
+      ≡ capped (absolute_all column presentation.divide_by (filter (is_base p) samples))
 
 -- the sums over two ranges
 abbrev pub totals_plus : Totals → Totals → Totals

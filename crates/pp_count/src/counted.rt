@@ -83,8 +83,10 @@ fn table_and_filters(
     config: &Config,
 ) -> Result<(KeyTable, Filters), Memory>
     requires verdicts { HasVerdicts l.now.profile v.now }
-    requires focus { HasItsTags l.now.profile v.now.tag (filter_in_force config.now.filtering.tagfocus) }
-    requires ignore { HasItsTags l.now.profile v.now.tag (filter_in_force config.now.filtering.tagignore) }
+    requires focus { HasItsTags l.now.profile v.now.tag
+        (filter_in_force config.now.filtering.tagfocus) }
+    requires ignore { HasItsTags l.now.profile v.now.tag
+        (filter_in_force config.now.filtering.tagignore) }
     ensures table { IfOk result (λ by. IsKeyTable l.now.profile config.now.grouping by.0) }
     ensures filters { IfOk result (λ by. AreFilters l.now.profile v.now config.now.filtering by.1) }
 {

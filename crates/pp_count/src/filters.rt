@@ -52,8 +52,10 @@ impl Filters {
         filtering: &Filtering,
     ) -> Result<Filters, Memory>
         requires verdicts { HasVerdicts l.now.profile v.now }
-        requires focus { HasItsTags l.now.profile v.now.tag (filter_in_force filtering.now.tagfocus) }
-        requires ignore { HasItsTags l.now.profile v.now.tag (filter_in_force filtering.now.tagignore) }
+        requires focus { HasItsTags l.now.profile v.now.tag
+            (filter_in_force filtering.now.tagfocus) }
+        requires ignore { HasItsTags l.now.profile v.now.tag
+            (filter_in_force filtering.now.tagignore) }
         ensures { IfOk result (AreFilters l.now.profile v.now filtering.now) }
     {
         let tags = tag_filters(alloc, filtering)?;
@@ -68,8 +70,10 @@ impl Filters {
         v: &Verdicts,
         filtering: &Filtering,
     ) -> Result<Filters, Memory>
-        requires focus { HasItsTags l.now.profile v.now.tag (filter_in_force filtering.now.tagfocus) }
-        requires ignore { HasItsTags l.now.profile v.now.tag (filter_in_force filtering.now.tagignore) }
+        requires focus { HasItsTags l.now.profile v.now.tag
+            (filter_in_force filtering.now.tagfocus) }
+        requires ignore { HasItsTags l.now.profile v.now.tag
+            (filter_in_force filtering.now.tagignore) }
         ensures { IfOk result (AreFilters l.now.profile v.now filtering.now) }
     {
         let tags = tag_filters(alloc, filtering)?;

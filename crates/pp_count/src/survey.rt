@@ -30,7 +30,8 @@ pub struct Survey<'a> {
 impl<'a> Survey<'a> {
     /// The filters of the report, ready for its samples.
     pub fn filters(&self) -> &'a Filters
-        ensures { AreFilters self.now.l.now.profile self.now.v.now self.now.config.now.filtering result.now }
+        ensures { AreFilters self.now.l.now.profile self.now.v.now self.now.config.now.filtering
+            result.now }
     {
         &self.counted.filters
     }

@@ -48,10 +48,12 @@ impl Totals {
 /// What the sample adds, whose selected value is `value`. It is nothing where percentages are taken of the samples that
 /// the filters leave, and `left` is false. Chosen samples are not added up.
 pub(crate) fn totals_of(scope: &Scope, s: &Sample, value: i64, left: bool) -> Totals
-    requires value { value ≡ selected scope.now.column scope.now.config.now.presentation.divide_by s.now }
+    requires value { value
+        ≡ selected scope.now.column scope.now.config.now.presentation.divide_by s.now }
     requires left { (f : Finders) →
         HoldsFilters scope.now.l.now scope.now.v.now scope.now.config.now.filtering f →
-        is_some (filtered_stack (profile_in_scope scope.now) f scope.now.config.now.filtering s.now) ≡ left }
+        is_some (filtered_stack (profile_in_scope scope.now) f scope.now.config.now.filtering s.now)
+        ≡ left }
     ensures { HasTotals scope.now (s.now ∷ []) result }
 {
     match scope.chosen {
@@ -64,7 +66,8 @@ pub(crate) fn totals_of(scope: &Scope, s: &Sample, value: i64, left: bool) -> To
 // Those of the sample, or of none.
 fn totals_if(scope: &Scope, s: &Sample, value: i64, left: bool) -> Totals
     requires { value ≡ selected scope.now.column scope.now.config.now.presentation.divide_by s.now }
-    ensures { AreTotals (profile_in_scope scope.now) scope.now.config.now.presentation scope.now.column
+    ensures { AreTotals (profile_in_scope scope.now) scope.now.config.now.presentation
+        scope.now.column
         (if left then s.now ∷ [] else []) result }
 {
     if left {
@@ -77,7 +80,8 @@ fn totals_if(scope: &Scope, s: &Sample, value: i64, left: bool) -> Totals
 // Those of the sample.
 fn sample_totals(scope: &Scope, s: &Sample, value: i64) -> Totals
     requires { value ≡ selected scope.now.column scope.now.config.now.presentation.divide_by s.now }
-    ensures { AreTotals (profile_in_scope scope.now) scope.now.config.now.presentation scope.now.column
+    ensures { AreTotals (profile_in_scope scope.now) scope.now.config.now.presentation
+        scope.now.column
         (s.now ∷ []) result }
 {
     let size = value.unsigned_abs();

@@ -86,10 +86,13 @@ without_values samples = map (λ s. s.0) samples
 -- The samples of the saved profile are those that the filters leave, where equal ones became one and those of 0 went.
 -- Each is one of them, no two are equal, and each has a value that isn't 0. The sum of each column is what it was over
 -- the samples that pass a test, whatever the test asks of stack and labels.
-pub record KeepsStacks (p : Profile) (f : Finders) (filtering : Filtering) (q : Profile) : Type 0 where
+pub record KeepsStacks (p : Profile) (f : Finders) (filtering : Filtering) (q : Profile)
+    : Type 0 where
   pub each
-      : All (Contains (without_values (left_stacks p f filtering))) (without_values (whole_stacks q))
+      : All (Contains (without_values (left_stacks p f filtering)))
+      (without_values (whole_stacks q))
   pub apart : AllPairs (λ a b. a ≢ b) (without_values (whole_stacks q))
   pub counted : All (λ s. counts s ≡ true) (whole_stacks q)
   pub sums : (test : StackText → Bool) → (column : ℕ) → column < length p.sample_type
-      → sum_passing test column (whole_stacks q) ≡ sum_passing test column (left_stacks p f filtering)
+      → sum_passing test column (whole_stacks q)
+      ≡ sum_passing test column (left_stacks p f filtering)

@@ -53,7 +53,8 @@ pub fn saved_profile<R: Threads + Sync>(
     ensures saved { (f : Finders) → (filtering : Filtering) → HoldsFilters l.now v.now filtering f →
         c.now.kept ≡ filtered_from l.now.profile f filtering 0 l.now.profile.sample →
         IfOk result (λ q. q ≡ saved l.now.profile f filtering) }
-    ensures stacks { (f : Finders) → (filtering : Filtering) → HoldsFilters l.now v.now filtering f →
+    ensures stacks { (f : Finders) → (filtering : Filtering) →
+        HoldsFilters l.now v.now filtering f →
         c.now.kept ≡ filtered_from l.now.profile f filtering 0 l.now.profile.sample →
         merged l.now.profile [] ≡ l.now.profile →
         IfOk result (KeepsStacks l.now.profile f filtering) }

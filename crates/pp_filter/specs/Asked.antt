@@ -37,7 +37,8 @@ verdicts_or (Err refused) = Err (OfOption refused)
 
 -- Asks for the patterns of the configuration.
 unfoldable pub verdicts : Finds → Loaded → Filtering → Asking Refused Verdicts
-verdicts finds l filtering = scripts.◌>>=◌ (judge finds filtering None l.profile) (λ answer. Give (verdicts_or answer))
+verdicts finds l filtering =
+    scripts.◌>>=◌ (judge finds filtering None l.profile) (λ answer. Give (verdicts_or answer))
 
 -- Asks for the patterns of the configuration, and gives the profile that is saved of a loaded one.
 unfoldable pub filter_loaded : Finds → Loaded → Filtering → Asking Refused Profile

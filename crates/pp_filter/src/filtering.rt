@@ -112,7 +112,8 @@ fn filter_loaded<R: Threads + Sync, D: Desk>(
     desk: &mut D,
 ) -> Result<Compact, Halt<Refused>>
     requires { IsCountable l.now.profile }
-    ensures went { Went (D.world desk.old) (D.world desk.new) (filter_loaded D.finds l.now config.now.filtering)
+    ensures went { Went (D.world desk.old) (D.world desk.new)
+        (filter_loaded D.finds l.now config.now.filtering)
         (settled result) }
     ensures saved { IfOk result (λ q. q ≡ saved_of D.finds l.now config.now.filtering) }
 {

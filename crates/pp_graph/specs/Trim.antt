@@ -71,7 +71,8 @@ module _ {K : Type 0} (order : K → K → Ordering) where
 -- The keys that a report may show: those that occur and are heavy, in report order.
 abbrev pub candidate_keys : Profile → Finders → Config → Option ℕ → List Written
 candidate_keys p f config column =
-    heavy_keys key_cmp config.presentation.sort (total_of p f config column) config.presentation.nodefraction.billionths
+    heavy_keys key_cmp config.presentation.sort
+    (total_of p f config column) config.presentation.nodefraction.billionths
     (report_samples p f config column)
 
 -- The keys that it shows, in report order: the first of these, where 0 is no limit.

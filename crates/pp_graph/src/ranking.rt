@@ -83,7 +83,8 @@ fn rank_by(
 ) -> Result<Ranked, Memory>
     requires fits { FitSums counted.now.sums }
     requires keys { All (IsKeyOf l.now.profile) counted.now.sums.names }
-    ensures { (v : Verdicts) (config : Config) (column : Option ℕ) → config.presentation.sort ≡ sort →
+    ensures { (v : Verdicts) (config : Config) (column : Option ℕ) →
+        config.presentation.sort ≡ sort →
         config.presentation.nodefraction.billionths ≡ least.billionths →
         IsCountedOf l.now v config column counted.now →
         IfOk result (IsRankedOf l.now v config column limit counted.now) }

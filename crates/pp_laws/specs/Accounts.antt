@@ -25,14 +25,16 @@ abbrev pub SamplesAddUp : Type 0
 SamplesAddUp =
     (p : Profile) (f : Finders) (config : Config) (column : Option ℕ)
     → portion_of config.presentation column p.sample
-    ≡ together (map (λ slot. portion_of config.presentation column (dropped_samples p f config.filtering slot p.sample)) dropping
+    ≡ together (map (λ slot. portion_of config.presentation column
+    (dropped_samples p f config.filtering slot p.sample)) dropping
     ++ portion_of config.presentation column (filtered_samples p f config.filtering p.sample) ∷ [])
 
 -- A filter that isn't in force, which has no row, drops no sample.
 abbrev pub OthersDropNone : Type 0
 OthersDropNone =
     (p : Profile) (f : Finders) (config : Config) (slot : Slot)
-    → is_in_force f config.filtering slot ≡ false → dropped_samples p f config.filtering slot p.sample ≡ []
+    → is_in_force f config.filtering slot ≡ false
+    → dropped_samples p f config.filtering slot p.sample ≡ []
 
 -- The rows of the keys that are too light, past the limit and shown add up to that of all keys.
 abbrev pub NodesAddUp : Type 0

@@ -62,7 +62,8 @@ figures_by p f config column =
 
 -- the figures of the profile that a table is made of
 abbrev pub figures_on : Finds → Loaded → Config → Option ℕ → FigureTable
-figures_on finds l config column = figures_by l.profile (report_finders finds l Table config.filtering) config column
+figures_on finds l config column =
+    figures_by l.profile (report_finders finds l Table config.filtering) config column
 
 -- the figures of what was settled, in its column
 abbrev pub figures_settled : Finds → Loaded → Config → Result Settled ReportRefusal → Result FigureTable ReportRefusal
@@ -89,7 +90,8 @@ HasEdgesOn finds l config column edges =
 -- They are those of the loaded profile, in the column that its table shows.
 abbrev pub HasEdges : Finds → Loaded → Config → List FigureEdge → Type 0
 HasEdges finds l config edges =
-    (showing : Showing) → showing_for Table (basis_of Table l config.presentation).profile config.presentation ≡ Ok showing
+    (showing : Showing) → showing_for Table
+    (basis_of Table l config.presentation).profile config.presentation ≡ Ok showing
     → HasEdgesOn finds (basis_of Table l config.presentation) config showing.column edges
 
 -- the figures or the refusal, without edges; nothing where memory was wanting

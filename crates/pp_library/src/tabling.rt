@@ -131,7 +131,8 @@ fn figures_of<R: Threads + Sync, M: Matcher>(
 ) -> Result<FigureTable, Memory>
     requires { IsPrepared M.finds l.now Table config.now prepared }
     ensures is { IfOk result (λ figures. without_edges figures
-        ≡ figures_on M.finds (basis_of Table l.now config.now.presentation) config.now prepared.shows.column) }
+        ≡ figures_on M.finds
+        (basis_of Table l.now config.now.presentation) config.now prepared.shows.column) }
     ensures edges { IfOk result (λ figures. HasEdges M.finds l.now config.now figures.edges) }
 {
     let Prepared {

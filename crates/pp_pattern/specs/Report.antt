@@ -31,7 +31,8 @@ abbrev pub slot_refused : Slot → PatternRefused
 slot_refused slot = record { option = slot }
 
 -- Asks for the patterns of frames: focus, ignore, hide, show, show_from.
-unfoldable pub judge_frames : Finds → Filtering → List (List ℕ) → Asking PatternRefused FrameVerdicts
+unfoldable pub judge_frames : Finds → Filtering → List (List ℕ)
+    → Asking PatternRefused FrameVerdicts
 judge_frames finds filtering texts = do
   focus ← judge_option finds (slot_refused Focus) texts filtering.focus
   ignore ← judge_option finds (slot_refused Ignore) texts filtering.ignore
@@ -98,7 +99,8 @@ all_verdicts frames tags names = record {
 }
 
 -- Asks for all patterns of a report with these tag filters.
-unfoldable pub judge_with : Finds → Filtering → Option (List ℕ) → Profile → Option TagFilter → Option TagFilter
+unfoldable pub judge_with : Finds → Filtering → Option (List ℕ) → Profile → Option TagFilter
+    → Option TagFilter
     → Asking PatternRefused Verdicts
 judge_with finds filtering own p focus ignore = do
   frames ← judge_frames finds filtering p.text
@@ -109,7 +111,8 @@ judge_with finds filtering own p focus ignore = do
 -- Asks for all patterns of a report that aren't empty. The first that is refused is named, and none is asked after it.
 abbrev pub judge : Finds → Filtering → Option (List ℕ) → Profile → Asking PatternRefused Verdicts
 judge finds filtering own p =
-    judge_with finds filtering own p (filter_in_force filtering.tagfocus) (filter_in_force filtering.tagignore)
+    judge_with finds filtering own p (filter_in_force filtering.tagfocus)
+    (filter_in_force filtering.tagignore)
 
 -- what the pattern of an option's value finds of the texts, where it is in force
 abbrev pub found_in : Finds → List (List ℕ) → List ℕ → Option (List Bool)
@@ -149,7 +152,8 @@ names_found finds filtering own texts = record {
 }
 
 -- all verdicts of a report with these tag filters
-abbrev pub verdicts_with : Finds → Filtering → Option (List ℕ) → Profile → Option TagFilter → Option TagFilter → Verdicts
+abbrev pub verdicts_with : Finds → Filtering → Option (List ℕ) → Profile → Option TagFilter
+    → Option TagFilter → Verdicts
 verdicts_with finds filtering own p focus ignore =
     all_verdicts (frames_found finds filtering p.text) (tags_found finds p focus ignore)
     (names_found finds filtering own p.text)
@@ -157,14 +161,16 @@ verdicts_with finds filtering own p focus ignore =
 -- All verdicts of a report, where no pattern is refused.
 abbrev pub verdicts_of : Finds → Filtering → Option (List ℕ) → Profile → Verdicts
 verdicts_of finds filtering own p =
-    verdicts_with finds filtering own p (filter_in_force filtering.tagfocus) (filter_in_force filtering.tagignore)
+    verdicts_with finds filtering own p (filter_in_force filtering.tagfocus)
+    (filter_in_force filtering.tagignore)
 
 -- what the parts of a tag filter find, where it is in force
 abbrev pub filter_finders : Finds → Option TagFilter → TagFinders
 filter_finders finds filter = by_text (option_map_or (λ f. map (part_finder finds) f.parts) filter [])
 
 -- what the patterns of a report find, beside those of its profile
-abbrev pub finders_of : Finds → Filtering → Option (List ℕ) → Option Finder → Option Finder → Finders
+abbrev pub finders_of : Finds → Filtering → Option (List ℕ) → Option Finder → Option Finder
+    → Finders
 finders_of finds filtering own drop keep = record {
   drop = drop;
   keep = keep;
@@ -183,7 +189,8 @@ finders_of finds filtering own drop keep = record {
 
 -- What is true of the verdicts of a report, beside the profile's own two lists: they are what the patterns find, with
 -- one truth value a text; those of tag filters are what the parts find of the texts or of the profile's tags.
-pub record AreVerdictsOf (finds : Finds) (filtering : Filtering) (own : Option (List ℕ)) (l : Loaded) (v : Verdicts) : Type 0 where
+pub record AreVerdictsOf (finds : Finds) (filtering : Filtering) (own : Option (List ℕ))
+    (l : Loaded) (v : Verdicts) : Type 0 where
   pub holds : (drop keep : Option Finder) → l.drop ≡ judged l.profile drop → l.keep ≡ judged l.profile keep
       → HoldsFinders l v (finders_of finds filtering own drop keep)
   pub fits : HasVerdicts l.profile v

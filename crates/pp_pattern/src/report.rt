@@ -126,7 +126,8 @@ fn judge_with<D: Desk>(
     ensures went { Went (D.world desk.old) (D.world desk.new)
         (judge_with D.finds filtering.now (option_copied own.entry) l.now.profile filters.now.focus
         filters.now.ignore) (settled result) }
-    ensures found { IfOk result (λ v. v ≡ verdicts_with D.finds filtering.now (option_copied own.entry)
+    ensures found { IfOk result
+        (λ v. v ≡ verdicts_with D.finds filtering.now (option_copied own.entry)
         l.now.profile filters.now.focus filters.now.ignore) }
 {
     let texts = &l.profile.get().text;

@@ -12,4 +12,5 @@ framed_by l roots leaves =
 
 -- the profile with the frames that the configuration asks for
 abbrev pub framed_for : Loaded → Presentation → Loaded
-framed_for l presentation = framed_by l (key_list presentation.tagroot) (key_list presentation.tagleaf)
+framed_for l presentation =
+    framed_by l (key_list presentation.tagroot) (key_list presentation.tagleaf)

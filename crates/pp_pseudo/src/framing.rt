@@ -19,7 +19,8 @@ pub fn framed_for(
     presentation: &Presentation,
 ) -> Result<Option<Loaded>, Memory>
     requires { IsCountable l.now.profile }
-    ensures framed { IfOk result (λ framed. unwrap_or framed l.now ≡ framed_for l.now presentation.now) }
+    ensures framed { IfOk result
+        (λ framed. unwrap_or framed l.now ≡ framed_for l.now presentation.now) }
     ensures countable { IfOk result (λ framed. IsCountable (unwrap_or framed l.now).profile) }
 {
     let roots = key_list(alloc, presentation.tagroot.as_slice())?;

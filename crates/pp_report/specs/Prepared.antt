@@ -41,7 +41,8 @@ in_unit column (Some wanted) = Ok (record { column = column; wanted = wanted })
 -- what a report shows, if there is such a column
 abbrev pub in_column : Profile → Presentation → Option (Option ℕ) → Result Showing ReportRefusal
 in_column p presentation None = Err BadSampleIndex
-in_column p presentation (Some column) = in_unit column (wanted_unit presentation.unit (unit_text p column))
+in_column p presentation (Some column) =
+    in_unit column (wanted_unit presentation.unit (unit_text p column))
 
 -- What a report shows. One that shows no values has no column, and is not refused for it.
 abbrev pub showing_for : Report → Profile → Presentation → Result Showing ReportRefusal
@@ -56,7 +57,8 @@ pub record Settled : Type 0 where
 
 -- the notes of a report that is made of the profile
 abbrev pub notes_of : Finds → Loaded → Report → Filtering → List ℕ
-notes_of finds l report filtering = notes_text l.profile (report_finders finds l report filtering) filtering
+notes_of finds l report filtering =
+    notes_text l.profile (report_finders finds l report filtering) filtering
 
 -- what is settled of a report that shows this, once its patterns are known
 abbrev pub settled_of : Finds → Loaded → Report → Filtering → Showing → Settled
@@ -64,13 +66,15 @@ settled_of finds l report filtering showing =
     record { showing = showing; notes = notes_of finds l report filtering }
 
 -- Asks for the patterns of a report that shows this.
-unfoldable pub prepare_counts : Finds → Loaded → Report → Filtering → Showing → Asking ReportRefusal Settled
+unfoldable pub prepare_counts : Finds → Loaded → Report → Filtering → Showing
+    → Asking ReportRefusal Settled
 prepare_counts finds l report filtering showing = do
   _ ← ask_patterns finds l report filtering
   Give (Ok (settled_of finds l report filtering showing))
 
 -- What asking comes to where the report is counted. One that isn't asks for none and has no notes.
-unfoldable pub prepare_showing : Finds → Loaded → Report → Filtering → Showing → Asking ReportRefusal Settled
+unfoldable pub prepare_showing : Finds → Loaded → Report → Filtering → Showing
+    → Asking ReportRefusal Settled
 prepare_showing finds l report filtering showing =
     if is_counted report then prepare_counts finds l report filtering showing
     else Give (Ok (record { showing = showing; notes = [] }))
@@ -79,11 +83,13 @@ prepare_showing finds l report filtering showing =
 -- refused for its column or its unit.
 unfoldable pub prepare_on : Finds → Loaded → Report → Config → Asking ReportRefusal Settled
 prepare_on finds l report config =
-    go_on (prepare_showing finds l report config.filtering) (showing_for report l.profile config.presentation)
+    go_on (prepare_showing finds l report config.filtering)
+    (showing_for report l.profile config.presentation)
 
 -- What asking comes to for a report of the loaded profile, which may first get frames from labels.
 abbrev pub prepare : Finds → Loaded → Report → Config → Asking ReportRefusal Settled
-prepare finds l report config = prepare_on finds (basis_of report l config.presentation) report config
+prepare finds l report config =
+    prepare_on finds (basis_of report l config.presentation) report config
 
 -- what `Shows` says
 abbrev pub showing : Shows → Showing
@@ -109,7 +115,8 @@ counts_settled showing (Err stop) = Err stop
 -- The verdicts are those of the report's patterns, and the samples are counted by them.
 pub record AreCounts (finds : Finds) (l : Loaded) (report : Report) (config : Config) (shown_column : Option ℕ)
     (counts : Counts) : Type 0 where
-  pub holds : HoldsFilters l counts.verdicts config.filtering (report_finders finds l report config.filtering)
+  pub holds : HoldsFilters l counts.verdicts config.filtering
+      (report_finders finds l report config.filtering)
   pub can : CanCount l.profile counts.verdicts config.filtering shown_column
   pub are : IsCountedOf l counts.verdicts config shown_column counts.counted
 

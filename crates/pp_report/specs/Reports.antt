@@ -78,11 +78,13 @@ text_by p f config column h reports.Proto = Give (Ok (encode (saved p f config.f
 text_by p f config column h (reports.List pattern) = list_text p f config column h
 text_by p f config column h reports.Folded = Give (Ok (folded_text p f config column))
 text_by p f config column h reports.Table =
-    Give (Ok (exact_table p f config column (node_limit config.presentation.nodecount 0) (unit_text p column)))
+    Give (Ok (exact_table p f config column (node_limit config.presentation.nodecount 0)
+    (unit_text p column)))
 text_by p f config column h reports.Compare =
     Give (Ok (compare_text p f config column (node_limit config.presentation.nodecount 0) h))
 text_by p f config column h reports.Changes =
-    Give (Ok (changes_text p f config column (node_limit config.presentation.nodecount 0) (unit_text p column)))
+    Give (Ok (changes_text p f config column (node_limit config.presentation.nodecount 0)
+    (unit_text p column)))
 text_by p f config column h reports.Account =
     Give (Ok (account_text p f config column (node_limit config.presentation.nodecount 0) h))
 
@@ -111,7 +113,8 @@ finish_on finds l report config showing =
 -- What a report of the loaded profile comes to, which may first get frames from labels.
 abbrev pub finish_made : Finds → Loaded → Report → Config → Showing
     → Script (Result (List ℕ) ReportRefusal)
-finish_made finds l report config showing = finish_on finds (basis_of report l config.presentation) report config showing
+finish_made finds l report config showing =
+    finish_on finds (basis_of report l config.presentation) report config showing
 
 -- The text of a report of the loaded profile, where a base of this kind was given, if one was; or its refusal for want
 -- of a base.

@@ -29,7 +29,8 @@ pub record IsLasting (q : Profile) : Type 0 where
   pub keep : text_of q q.keep_frames ≡ []
 
 -- What is known of the text of a saved profile as it is written. The last two are of the profile that it was saved of.
-pub record IsProtoOf (p : Profile) (f : Finders) (filtering : Filtering) (text : List ℕ) : Type 0 where
+pub record IsProtoOf (p : Profile) (f : Finders) (filtering : Filtering) (text : List ℕ)
+    : Type 0 where
   pub bytes : text ≡ encode (saved p f filtering)
   pub again : read text ≡ Ok (saved p f filtering)
   pub lasts : IsLasting (saved p f filtering)
@@ -38,4 +39,5 @@ pub record IsProtoOf (p : Profile) (f : Finders) (filtering : Filtering) (text :
 
 -- the text is that of the profile saved by what the patterns of a proto report find
 abbrev pub IsProtoBy : Finds → Loaded → Filtering → List ℕ → Type 0
-IsProtoBy finds l filtering text = IsProtoOf l.profile (report_finders finds l reports.Proto filtering) filtering text
+IsProtoBy finds l filtering text =
+    IsProtoOf l.profile (report_finders finds l reports.Proto filtering) filtering text

@@ -46,7 +46,8 @@ pub fn finish<R: Threads + Sync, D: Desk, G: Gate>(
     ensures went { Went (D.world desk.old) (D.world desk.new)
         (finish D.finds l.now prepared.base report.now config.now (showing prepared.shows)) result }
     ensures saved { report.now ≡ Proto → OnText result
-        (IsProtoBy D.finds (basis_of report.now l.now config.now.presentation) config.now.filtering) }
+        (IsProtoBy D.finds (basis_of report.now l.now config.now.presentation)
+        config.now.filtering) }
 {
     if lacks_base(prepared.base, l, report) {
         mem::drop(prepared);
@@ -87,7 +88,8 @@ fn finish_by<R: Threads + Sync, D: Desk, G: Gate>(
     desk: &mut D,
 ) -> Result<Result<Text, ReportRefusal>, Stop>
     ensures went { let s = survey.now in (f : Finders) →
-        HoldsFilters s.l.now s.v.now s.config.now.filtering f → Went (D.world desk.old) (D.world desk.new)
+        HoldsFilters s.l.now s.v.now s.config.now.filtering f →
+        Went (D.world desk.old) (D.world desk.new)
         (finish_by s.l.now.profile f s.config.now
         (record { column = s.column; wanted = option_map shown unit }) report.now) result }
     ensures saved { let s = survey.now in (f : Finders) →

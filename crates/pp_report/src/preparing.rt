@@ -120,7 +120,8 @@ fn counts_for<R: Threads + Sync, D: Desk, G: Gate>(
 
 // What was counted, and its notes.
 fn noted(alloc: Global, filtering: &Filtering, counts: Counts) -> Result<(Counts, Text), Memory>
-    ensures { IfOk result (λ made. made ≡ (counts, notes_by filtering.now counts.counted.matched.slots)) }
+    ensures { IfOk result
+        (λ made. made ≡ (counts, notes_by filtering.now counts.counted.matched.slots)) }
 {
     match notes_by(alloc, filtering, counts.counted.matched.slots.as_slice()) {
         Ok(notes) => Ok((counts, notes)),

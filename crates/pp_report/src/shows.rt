@@ -53,7 +53,8 @@ fn values_shown(
 ) -> Result<Result<Shows, ReportRefusal>, Memory>
     requires { length l.now.profile.sample_type < 2 ^ 32 }
     ensures value { IfOk result (λ answer. result_map_both showing (λ refusal. refusal) answer
-        ≡ in_column l.now.profile presentation.now (column_of l.now.profile presentation.now.sample_index)) }
+        ≡ in_column l.now.profile presentation.now
+        (column_of l.now.profile presentation.now.sample_index)) }
     ensures bound { IfOk result (λ answer. IfOk answer
         (λ shows. IsColumnOf l.now.profile shows.column)) }
 {

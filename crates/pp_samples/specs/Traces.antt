@@ -51,7 +51,8 @@ trace_text labels value [] = []
 trace_text labels value (key ∷ keys) = trace_separator ++ labels ++ frame_lines value (key ∷ keys)
 
 -- the lines of a sample whose stack is left so
-abbrev pub trace_of_stack : Profile → Finders → Presentation → Option ℕ → Shown → Sample → List Written → List ℕ
+abbrev pub trace_of_stack : Profile → Finders → Presentation → Option ℕ → Shown → Sample
+    → List Written → List ℕ
 trace_of_stack p f presentation column unit s keys =
     trace_text (flat_map (trace_label_line p) (shown_labels p f s.label))
     (value_text (selected column presentation.divide_by s) unit) keys
@@ -60,7 +61,8 @@ trace_of_stack p f presentation column unit s keys =
 abbrev pub trace_of : Profile → Finders → Config → Option ℕ → Shown → Sample → List ℕ
 trace_of p f config column unit s =
     option_map_or
-    (λ stack. trace_of_stack p f config.presentation column unit s (keys_of_stack p config.grouping stack))
+    (λ stack. trace_of_stack p f config.presentation column unit s
+    (keys_of_stack p config.grouping stack))
     (filtered_stack p f config.filtering s) []
 
 -- The text of the traces report.

@@ -31,7 +31,8 @@ FindsInTraces t f = HoldsFilters t.scope.l.now t.scope.v.now t.scope.config.now.
 
 -- the lines of a sample
 abbrev pub sample_trace : Traces → Finders → Sample → List ℕ
-sample_trace t f s = trace_of (trace_profile t) f (config_of t.scope) t.scope.column (shown t.unit.now) s
+sample_trace t f s =
+    trace_of (trace_profile t) f (config_of t.scope) t.scope.column (shown t.unit.now) s
 
 -- the lines of the samples with these numbers
 abbrev pub traces_text_at : Traces → Finders → List ℕ → List ℕ

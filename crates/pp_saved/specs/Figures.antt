@@ -56,7 +56,8 @@ figures p f config column =
       duration = p.duration_nanos;
       keys = each_once key_cmp (all_keys samples);
       finds = λ test k.
-          list_any (λ s. list_any (is_found_frame config.grouping test k) s.keys) (report_frames p f config column);
+          list_any (λ s. list_any (is_found_frame config.grouping test k) s.keys)
+          (report_frames p f config column);
       flat_of = flat key_cmp samples;
       cum_of = cum key_cmp samples;
       occurs_pair = λ kept. edge_occurs key_cmp kept samples;
@@ -66,4 +67,5 @@ figures p f config column =
 -- The figures of a report on the column that the configuration asks for. Where it asks for no sample type, None is all
 -- that there is.
 abbrev pub asked_figures : Profile → Finders → Config → Option Figures
-asked_figures p f config = option_map (figures p f config) (column_of p config.presentation.sample_index)
+asked_figures p f config =
+    option_map (figures p f config) (column_of p config.presentation.sample_index)

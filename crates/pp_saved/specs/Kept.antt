@@ -26,7 +26,8 @@ abbrev pub SavedFigures : Type 0
 SavedFigures =
     (p : Profile) (f : Finders) (config : Config) (column : Option ℕ)
     → CanSave p config.presentation → IsColumnOf p column
-    → figures (saved p f config.filtering) (own_alone f) (unfiltered config) column ≡ figures p f config column
+    → figures (saved p f config.filtering) (own_alone f) (unfiltered config) column
+    ≡ figures p f config column
 
 -- The two reports print the same: top, tree and peek under the same head, whether peek finds anything, table of the
 -- same unit, and folded.
@@ -65,7 +66,8 @@ SavedLasts =
 
 -- Such a profile is itself when it is saved without filters. So saving a saved profile again changes nothing.
 abbrev pub SavedWhole : Type 0
-SavedWhole = (p : Profile) (config : Config) → IsLasting p → saved p no_finders (unfiltered config).filtering ≡ p
+SavedWhole = (p : Profile) (config : Config) → IsLasting p
+    → saved p no_finders (unfiltered config).filtering ≡ p
 
 -- The absolute values of a column add up to no more in the saved profile, so it can be merged where the other one can.
 abbrev pub SavedSizes : Type 0

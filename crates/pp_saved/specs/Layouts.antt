@@ -120,11 +120,14 @@ module _ (g : Figures) where
 -- The texts of the four reports are these layouts of their figures.
 pub record AreLayouts (p : Profile) (f : Finders) (config : Config) (column : Option ℕ) : Type 0 where
   pub top : (limit : ℕ) (h : Facts)
-      → top.top_text p f config column limit h ≡ top_layout (figures p f config column) config.presentation limit h
+      → top.top_text p f config column limit h
+      ≡ top_layout (figures p f config column) config.presentation limit h
   pub tree : (limit : ℕ) (h : Facts)
-      → tree.tree_text p f config column limit h ≡ tree_layout (figures p f config column) config.presentation limit h
+      → tree.tree_text p f config column limit h
+      ≡ tree_layout (figures p f config column) config.presentation limit h
   pub peek : (h : Facts)
-      → peek_text p f config column h ≡ peek_layout (figures p f config column) config.presentation f.own h
+      → peek_text p f config column h
+      ≡ peek_layout (figures p f config column) config.presentation f.own h
   pub table : (limit : ℕ) (unit : List ℕ)
       → table.exact_table p f config column limit unit
       ≡ table_layout (figures p f config column) config.presentation limit unit

@@ -19,7 +19,8 @@ use Rattle.pp_saved.specs.StaysSaved.{stays_saved}
 
 -- the profile that a proto report writes
 abbrev pub saved_by : Finds → Loaded → Config → Profile
-saved_by finds l config = saved l.profile (report_finders finds l reports.Proto config.filtering) config.filtering
+saved_by finds l config =
+    saved l.profile (report_finders finds l reports.Proto config.filtering) config.filtering
 
 -- The profile is what a proto report of the other one writes, loaded without any pattern of its own.
 pub record IsSavedOf (finds : Finds) (l : Loaded) (config : Config) (r : Loaded) : Type 0 where
@@ -40,7 +41,8 @@ pub record IsPlain (presentation : Presentation) : Type 0 where
 -- Under the second configuration the report of r shows what that of l shows under the first, or is refused likewise;
 -- and it comes to the same text, or finds no function as well, whatever bases were given.
 pub record ReportAlike (finds : Finds) (l r : Loaded) (report : Report) (config d : Config) : Type 0 where
-  pub shows : showing_for report r.profile d.presentation ≡ showing_for report l.profile config.presentation
+  pub shows : showing_for report r.profile d.presentation
+      ≡ showing_for report l.profile config.presentation
   pub comes_to : (showing : Showing) → IsColumnOf l.profile showing.column
       → (base other : Option BaseKind)
       → finish finds r other report d showing ≡ finish finds l base report config showing
@@ -50,5 +52,6 @@ pub record ReportAlike (finds : Finds) (l r : Loaded) (report : Report) (config 
 abbrev pub SavedReports : Type 0
 SavedReports =
     (finds : Finds) (l r : Loaded) (report : Report) (config : Config)
-    → stays_saved report ≡ true → CanSave l.profile config.presentation → IsPlain config.presentation
+    → stays_saved report ≡ true → CanSave l.profile config.presentation
+    → IsPlain config.presentation
     → IsSavedOf finds l config r → ReportAlike finds l r report config (unfiltered config)

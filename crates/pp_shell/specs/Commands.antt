@@ -68,7 +68,8 @@ is_own (pos n) = false
 -- in the shell the own number of rows of top and compare is 10
 abbrev pub with_few_rows : Report → Config → Config
 with_few_rows report c =
-    if is_short report && is_own c.presentation.nodecount then assigned c (settings.Nodecount (pos 10)) else c
+    if is_short report && is_own c.presentation.nodecount
+    then assigned c (settings.Nodecount (pos 10)) else c
 
 -- the variable whose place added patterns take
 abbrev pub focus_variable : Report → TextVariable

@@ -53,7 +53,8 @@ read_sources environment sources (file ∷ files) = do
   read_sources environment (sources ++ source ∷ []) files
 
 -- The report of these lines. The source of each of their files is read once.
-unfoldable pub list_lines : Environment → List (Seen Written) → Facts → List Written → Script (List ℕ)
+unfoldable pub list_lines : Environment → List (Seen Written) → Facts → List Written
+    → Script (List ℕ)
 list_lines environment samples h lines = do
   sources ← read_sources environment [] (files_of_lines lines)
   Give (lines_text samples h (source_at (files_of_lines lines) sources) lines)

@@ -32,7 +32,8 @@ pub fn ledger_of(alloc: Global, survey: &Survey<'_>) -> Result<Ledger, Memory>
     ensures found { IfOk result (λ ledger.
         AreFound survey.now.l.now.profile survey.now.v.now.own ledger.lines.names.keys) }
     ensures sums { (f : Finders) →
-        HoldsFilters survey.now.l.now survey.now.v.now survey.now.config.now.filtering f → IfOk result
+        HoldsFilters survey.now.l.now survey.now.v.now survey.now.config.now.filtering f →
+        IfOk result
         (IsLedgerOf survey.now.l.now.profile survey.now.v.now.own
         (report_frames survey.now.l.now.profile f survey.now.config.now survey.now.column)) }
 {
@@ -66,7 +67,8 @@ fn ledger_in<'x>(
     ensures found { IfOk result (λ ledger.
         AreFound survey.now.l.now.profile survey.now.v.now.own ledger.lines.names.keys) }
     ensures sums { (f : Finders) →
-        HoldsFilters survey.now.l.now survey.now.v.now survey.now.config.now.filtering f → IfOk result
+        HoldsFilters survey.now.l.now survey.now.v.now survey.now.config.now.filtering f →
+        IfOk result
         (IsLedgerOf survey.now.l.now.profile survey.now.v.now.own
         (report_frames survey.now.l.now.profile f survey.now.config.now survey.now.column)) }
 {

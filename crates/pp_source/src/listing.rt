@@ -120,7 +120,8 @@ fn list_lines<D: Desk>(
     requires { All (IsLineIn listing.now) lines.now }
     ensures { (samples : Seq (Seen Written)) →
         ListsOf listing.now samples →
-        Went (D.world desk.old) (D.world desk.new) (list_lines listing.now.survey.now.config.now.environment
+        Went (D.world desk.old) (D.world desk.new)
+        (list_lines listing.now.survey.now.config.now.environment
         samples (facts listing.now.head.now) (lines_texts lines.now)) result }
 {
     let files = files_of(alloc, listing.survey.hash_keys(), lines)?;

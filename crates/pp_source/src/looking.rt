@@ -19,7 +19,8 @@ pub fn source_of<D: Desk>(
     file: &[u8],
     desk: &mut D,
 ) -> Result<Source, Stop>
-    ensures { Went (D.world desk.old) (D.world desk.new) (source_of environment.now file.now) result }
+    ensures { Went (D.world desk.old) (D.world desk.new)
+        (source_of environment.now file.now) result }
 {
     if file.is_empty() {
         return Ok(Source::NoName);

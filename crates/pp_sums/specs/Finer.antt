@@ -44,7 +44,8 @@ is_part grain showcolumns k part = eq_by_cmp key_cmp k (kept_by grain showcolumn
 pub record IsSumOfParts (coarse fine : Grain) (p : Profile) (f : Finders) (config : Config) (column : Option ℕ) (k : Written) : Type 0 where
   pub flat : flat key_cmp (report_samples p f (at_grain coarse config) column) k
       ≡ int_sum (map (flat key_cmp (report_samples p f (at_grain fine config) column))
-      (filter (is_part coarse config.grouping.showcolumns k) (all_report_keys p f (at_grain fine config) column)))
+      (filter (is_part coarse config.grouping.showcolumns k)
+      (all_report_keys p f (at_grain fine config) column)))
   pub cum : NoneNegative (seen_samples p f config column p.sample)
       → (part : Written) → is_part coarse config.grouping.showcolumns k part ≡ true
       → cum key_cmp (report_samples p f (at_grain fine config) column) part

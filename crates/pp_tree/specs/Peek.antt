@@ -25,7 +25,8 @@ is_own_of f grouping k w =
 -- Whether the own pattern finds the function of a frame that counts and has the key.
 abbrev pub is_found_key : Profile → Finders → Config → Option ℕ → Written → Bool
 is_found_key p f config column k =
-    list_any (λ s. list_any (is_own_of f config.grouping k) s.keys) (report_frames p f config column)
+    list_any (λ s. list_any (is_own_of f config.grouping k) s.keys)
+    (report_frames p f config column)
 
 -- the node of a key with all its callers and callees
 abbrev pub whole_node_of : Profile → Finders → Config → Option ℕ → Written → Node

@@ -168,7 +168,8 @@ fn add_frame(
     ensures found { (find : Finder) → AreVerdicts asked.now.l.now.profile asked.now.own.now find →
         IfOk result (λ _. (k : Written) → holds_key asked.now.l.now.profile keys.new.keys k
         ≡ (holds_key asked.now.l.now.profile keys.old.keys k
-        || is_own_at asked.now.l.now.profile asked.now.config.now.grouping find k stack.now place)) }
+        || is_own_at asked.now.l.now.profile asked.now.config.now.grouping find k stack.now
+        place)) }
 {
     let config = asked.config;
     let frame = &stack.as_slice()[place];
