@@ -68,7 +68,10 @@ framed_samples p f config column samples =
 -- the sample with this stack
 abbrev pub seen_with : Profile → Config → Option ℕ → Sample → List Frame → Seen Written
 seen_with p config column s stack =
-    record { value = selected column config.presentation.divide_by s; keys = keys_of_stack p config.grouping stack }
+    record {
+      value = selected column config.presentation.divide_by s;
+      keys = keys_of_stack p config.grouping stack;
+    }
 
 -- The sample as the report sees it, none where the filters drop it.
 abbrev pub seen : Profile → Finders → Config → Option ℕ → Sample → Option (Seen Written)
