@@ -219,15 +219,15 @@ sums_are_same keep p f config column sums valid stay all given =
 
 -- stacks that no filter cut
 pub keys_are_same : KeysStay
-keys_are_same keep p config s valid counted all =
-    sym (map_twice key (written kept) (counted_frames config.grouping.noinlines (stack_of kept s)))
-    ∙ ap (map key) (counted_left keep p (text_zero p valid) config.grouping.noinlines 0 s.location_id counted)
-    ∙ map_twice key (left_of_frame keep) (map (written p) (counted_frames config.grouping.noinlines (stack_of p s)))
-    ∙ (λ i. map (λ w. key_left keep config.grouping.grain config.grouping.showcolumns w all i) (map (written p) (counted_frames config.grouping.noinlines (stack_of p s))))
-    ∙ map_twice key (written p) (counted_frames config.grouping.noinlines (stack_of p s))
+keys_are_same keep p grouping s valid counted all =
+    sym (map_twice key (written kept) (counted_frames grouping.noinlines (stack_of kept s)))
+    ∙ ap (map key) (counted_left keep p (text_zero p valid) grouping.noinlines 0 s.location_id counted)
+    ∙ map_twice key (left_of_frame keep) (map (written p) (counted_frames grouping.noinlines (stack_of p s)))
+    ∙ (λ i. map (λ w. key_left keep grouping.grain grouping.showcolumns w all i) (map (written p) (counted_frames grouping.noinlines (stack_of p s))))
+    ∙ map_twice key (written p) (counted_frames grouping.noinlines (stack_of p s))
   where
     kept : Profile
     kept = aggregated keep p
 
     key : Written → Written
-    key = key_of_written config.grouping
+    key = key_of_written grouping

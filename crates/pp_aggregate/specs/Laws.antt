@@ -3,6 +3,7 @@ use Rattle.std.specs.Prelude.{◌≡◌, ℕ, true, List, map, Option}
 use Rattle.pp_model.specs.declared.config.Config.{Config}
 use Rattle.pp_model.specs.declared.profile.Profile.{Profile}
 use Rattle.pp_model.specs.declared.profile.Sample.{Sample}
+use Rattle.pp_model.specs.declared.grouping.Grouping.{Grouping}
 use Rattle.pp_model.specs.Finders.{Finders}
 use Rattle.pp_model.specs.Frames.{stack_of}
 use Rattle.pp_model.specs.Rules.{NoRuleFails}
@@ -20,11 +21,11 @@ use Rattle.pp_aggregate.specs.Left.{left_of_frame, keeps_keys, keeps_counted, Fr
 -- Without filters the keys of each stack stay, at each grain that looks at nothing that is dropped.
 abbrev pub KeysStay : Type 0
 KeysStay =
-    (keep : Kept) (p : Profile) (config : Config) (s : Sample)
-    → NoRuleFails p → keeps_counted keep config.grouping ≡ true
-    → keeps_keys keep config.grouping.grain config.grouping.showcolumns ≡ true
-    → keys_of_stack (aggregated keep p) config.grouping (stack_of (aggregated keep p) s)
-    ≡ keys_of_stack p config.grouping (stack_of p s)
+    (keep : Kept) (p : Profile) (grouping : Grouping) (s : Sample)
+    → NoRuleFails p → keeps_counted keep grouping ≡ true
+    → keeps_keys keep grouping.grain grouping.showcolumns ≡ true
+    → keys_of_stack (aggregated keep p) grouping (stack_of (aggregated keep p) s)
+    ≡ keys_of_stack p grouping (stack_of p s)
 
 -- With filters, the samples that are kept are the same, of the same values, with what is left of the frames that count.
 -- The same options match something, and the own pattern of a report finds a function where it found one.

@@ -77,7 +77,7 @@ module _ (finds : Finds) {saving reading : Plan} (path : List ℕ) (l : Loaded) 
 
   -- what is saved
   abbrev q : Profile
-  q = saved_by finds l saving.config
+  q = saved_by finds l saving.config.filtering
 
   known : IsLoadable l.profile
   known = loaded_is finds saving first.files first.locked first.lines first.answers l loaded
@@ -130,7 +130,7 @@ module _ (finds : Finds) (saving reading filtering : Plan) (report : Report) (pa
   c = filtering.config
 
   abbrev r : Loaded
-  r = loaded_of (saved_by finds l saving.config) None None
+  r = loaded_of (saved_by finds l saving.config.filtering) None None
 
   own : IsLoadable l.profile
   own = loaded_is finds saving first.files first.locked first.lines first.answers l loaded
@@ -144,7 +144,7 @@ module _ (finds : Finds) (saving reading filtering : Plan) (report : Report) (pa
   third_loaded : (loading_in finds third).value ≡ Ok l
   third_loaded = ap (λ (x : Course (Result Loaded LoadRefusal)). x.value) (same_loading finds saving filtering path first third pass.sources but) ∙ loaded
 
-  saved_of : IsSavedOf finds l c r
+  saved_of : IsSavedOf finds l c.filtering r
   saved_of = record { profile = sym (saved_same finds l saving.config c pass.same_filters); drop = refl; keep = refl }
 
   one : ComeToOne (report_script finds r reading.base_kind report (unfiltered c)) (report_script finds l filtering.base_kind report c)
@@ -180,14 +180,14 @@ saved_files_report_alike finds saving reading filtering report path l pass stayi
 
 pub saved_files_save_alike : SavedFilesSaveAlike
 saved_files_save_alike finds saving again path l save first second loaded stand =
-    let q : Profile = saved_by finds l saving.config in
+    let q : Profile = saved_by finds l saving.config.filtering in
     let r : Loaded = loaded_of q None None in
     let last : IsLasting q = lasts finds path l save.saves save.keyless save.file first second loaded stand in
-    let same : saved_by finds r again.config ≡ q = ap (saved_by finds r) save.no_filters ∙ saved_whole q again.config last in
+    let same : saved_by finds r again.config.filtering ≡ q = ap (saved_by finds r) save.no_filters ∙ saved_whole q last in
     let gives = proto_taken finds r again.base_kind again.config save.keyless_again in
     let ends = session_ends finds reports.Proto save.saves_again second r (second_loaded finds path l save.saves save.keyless save.file first second loaded stand) gives.0 _ gives.1 in
     record {
-      out = ends.out ∙ append-nil (encode (saved_by finds r again.config)) ∙ ap encode same ∙ sym (text_is finds path l save.saves save.keyless save.file first second loaded stand);
+      out = ends.out ∙ append-nil (encode (saved_by finds r again.config.filtering)) ∙ ap encode same ∙ sym (text_is finds path l save.saves save.keyless save.file first second loaded stand);
       done = (first_ends finds path l save.saves save.keyless save.file first second loaded stand).1.value;
       done_again = ends.value;
     }

@@ -12,6 +12,7 @@ use Rattle.pp_model.specs.declared.loaded.Loaded.{Loaded}
 use Rattle.pp_model.specs.declared.profile.Profile.{Profile}
 use Rattle.pp_model.specs.declared.report.Report.{Report}
 use Rattle.pp_model.specs.declared.report.Report.TheVariants as reports
+use Rattle.pp_model.specs.Defaults.{standard_filtering}
 use Rattle.pp_count.specs.Counts.{is_base}
 use Rattle.pp_load.specs.declared.refusal.LoadRefusal.{LoadRefusal}
 use Rattle.pp_load.specs.Alone.{HasOneFile}
@@ -121,7 +122,7 @@ pub record SaveAgain (saving again : Plan) (path : List ℕ) : Type 0 where
   pub saves : saving.report ≡ Some reports.Proto
   pub saves_again : again.report ≡ Some reports.Proto
   pub file : HasOneFile again path
-  pub no_filters : again.config ≡ unfiltered again.config
+  pub no_filters : again.config.filtering ≡ standard_filtering
   pub keyless : NamesNoKey saving.config.presentation
   pub keyless_again : NamesNoKey again.config.presentation
 

@@ -1,6 +1,5 @@
 -- What may be said of verdicts by their lengths alone.
 use Rattle.std.specs.Prelude.{ℕ, Option}
-use Rattle.pp_model.specs.declared.config.Config.{Config}
 use Rattle.pp_model.specs.declared.loaded.Loaded.{Loaded}
 use Rattle.pp_model.specs.declared.profile.Profile.{Profile}
 use Rattle.pp_model.specs.declared.verdicts.Verdicts.{Verdicts}
@@ -19,6 +18,6 @@ pub record FitTags (p : Profile) (v : Verdicts) (filtering : Filtering) : Type 0
 -- Verdicts that a report can be counted by are what some patterns find, whatever truth values they have.
 abbrev pub VerdictsAreFound : Type 0
 VerdictsAreFound =
-    (l : Loaded) (v : Verdicts) (config : Config) (column : Option ℕ) → NoRuleFails l.profile → IsCompact l.profile
-    → CanCount l.profile v config.filtering column → FitTags l.profile v config.filtering
-    → (f : Finders) × HoldsFilters l v config.filtering f
+    (l : Loaded) (v : Verdicts) (filtering : Filtering) (column : Option ℕ) → NoRuleFails l.profile → IsCompact l.profile
+    → CanCount l.profile v filtering column → FitTags l.profile v filtering
+    → (f : Finders) × HoldsFilters l v filtering f

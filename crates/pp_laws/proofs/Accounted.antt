@@ -287,7 +287,7 @@ module _ (p : Profile) (f : Finders) (filtering : Filtering) where
   others slots.Own none s = refl
 
 pub others_drop_none : OthersDropNone
-others_drop_none p f config slot none = filter_none (λ s. is_filter slot (first_filter p f config.filtering s)) p.sample (others p f config.filtering slot none)
+others_drop_none p f filtering slot none = filter_none (λ s. is_filter slot (first_filter p f filtering s)) p.sample (others p f filtering slot none)
 
 -- keys that pass a test, and the others
 module _ (value : Written → ℤ) (t : Written → Bool) where

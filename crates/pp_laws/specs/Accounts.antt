@@ -3,6 +3,7 @@ use Rattle.std.specs.Prelude.{◌≡◌, ℕ, ◌+◌, pos, ◌+ℤ◌, false, L
 use Rattle.pp_model.specs.declared.config.Config.{Config}
 use Rattle.pp_model.specs.declared.profile.Profile.{Profile}
 use Rattle.pp_model.specs.declared.verdicts.Slot.{Slot}
+use Rattle.pp_model.specs.declared.filtering.Filtering.{Filtering}
 use Rattle.pp_model.specs.Finders.{Finders}
 use Rattle.pp_count.specs.Counts.{filtered_samples}
 use Rattle.pp_graph.specs.Trim.{all_report_keys, report_keys}
@@ -32,9 +33,9 @@ SamplesAddUp =
 -- A filter that isn't in force, which has no row, drops no sample.
 abbrev pub OthersDropNone : Type 0
 OthersDropNone =
-    (p : Profile) (f : Finders) (config : Config) (slot : Slot)
-    → is_in_force f config.filtering slot ≡ false
-    → dropped_samples p f config.filtering slot p.sample ≡ []
+    (p : Profile) (f : Finders) (filtering : Filtering) (slot : Slot)
+    → is_in_force f filtering slot ≡ false
+    → dropped_samples p f filtering slot p.sample ≡ []
 
 -- The rows of the keys that are too light, past the limit and shown add up to that of all keys.
 abbrev pub NodesAddUp : Type 0

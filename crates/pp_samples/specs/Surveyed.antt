@@ -17,4 +17,4 @@ FindsInSurvey survey f = HoldsFilters survey.l.now survey.v.now survey.config.no
 
 -- the sample with its selected value and the tags that are shown of it
 abbrev pub survey_tagged : Survey → Finders → Sample → Seen TagTexts
-survey_tagged survey f s = sample_with_tags (survey_profile survey) f survey.config.now survey.column s
+survey_tagged survey f s = sample_with_tags (survey_profile survey) f survey.config.now.presentation survey.column s

@@ -150,15 +150,15 @@ module _ (finds : Finds) (l : Loaded) (report : Report) (config : Config) (count
 
 -- a proto report comes to the bytes of what is saved, where no frames are made from labels
 pub proto_taken : (finds : Finds) (l : Loaded) (base : Option BaseKind) (config : Config) → NamesNoKey config.presentation
-    → (notes : List ℕ) × GivesTaken (report_script finds l base reports.Proto config) (reported_with notes (Ok (encode (saved_by finds l config))))
+    → (notes : List ℕ) × GivesTaken (report_script finds l base reports.Proto config) (reported_with notes (Ok (encode (saved_by finds l config.filtering))))
 unfolding finish_on text_by
 proto_taken finds l base config keyless =
     let shown : Showing = record { column = None; wanted = None } in
     let over : Loaded = basis_of reports.Proto l config.presentation in
     let notes : List ℕ = (settled_of finds over reports.Proto config.filtering shown).notes in (
       notes,
-      subst (λ (q : Loaded). GivesTaken (report_script finds l base reports.Proto config) (reported_with notes (Ok (encode (saved_by finds q config))))) (plain_basis reports.Proto l config.presentation keyless)
-          (made_taken finds l reports.Proto config refl base shown (Ok (encode (saved_by finds over config))) refl refl),
+      subst (λ (q : Loaded). GivesTaken (report_script finds l base reports.Proto config) (reported_with notes (Ok (encode (saved_by finds q config.filtering))))) (plain_basis reports.Proto l config.presentation keyless)
+          (made_taken finds l reports.Proto config refl base shown (Ok (encode (saved_by finds over config.filtering))) refl refl),
     )
 
 -- ---- a saved profile and the one that it was saved of
@@ -175,7 +175,7 @@ unfiltered_silent : (c : Config) (matched : List Bool) → notes_by (unfiltered 
 unfolding notes_by note_unless
 unfiltered_silent c matched = refl
 
-module _ (finds : Finds) (l r : Loaded) (c : Config) (can : CanSave l.profile c.presentation) (is : IsSavedOf finds l c r) where
+module _ (finds : Finds) (l r : Loaded) (c : Config) (can : CanSave l.profile c.presentation) (is : IsSavedOf finds l c.filtering r) where
   abbrev d : Config
   d = unfiltered c
 
@@ -240,8 +240,8 @@ module _ (finds : Finds) (l r : Loaded) (c : Config) (can : CanSave l.profile c.
   }
 
 -- the filters alone tell what is saved
-pub saved_same : (finds : Finds) (l : Loaded) (config c : Config) → HasFiltersOf config c → saved_by finds l c ≡ saved_by finds l config
-saved_same finds l config c has = ap (λ filtering. saved_by finds l (record config { filtering = filtering })) has
+pub saved_same : (finds : Finds) (l : Loaded) (config c : Config) → HasFiltersOf config c → saved_by finds l c.filtering ≡ saved_by finds l config.filtering
+saved_same finds l config c has = ap (λ filtering. saved_by finds l (record config { filtering = filtering }).filtering) has
 
 -- what holds of the loaded profile and of the configuration
 pub can_save : (p : Profile) (c : Config) → NoRuleFails p → AllByRecursion (λ m. m.start < 2 ^ 64) p.mapping → IsSource p → CountsFiltered c.presentation → CanSave p c.presentation
@@ -262,7 +262,7 @@ proto_text finds l config text countable is = record {
   again = is.again;
   lasts = is.lasts;
   sums = λ column within.
-      omega (arith, saved_sizes l.profile (report_finders finds l reports.Proto config.filtering) config column is.valid within, countable.sums column within);
+      omega (arith, saved_sizes l.profile (report_finders finds l reports.Proto config.filtering) config.filtering column is.valid within, countable.sums column within);
   reports = λ source c has counts plain r saved.
       reports_alike finds l r c (can_save l.profile c is.valid is.starts source counts)
       (record { profile = saved.profile ∙ sym (saved_same finds l config c has); drop = saved.drop; keep = saved.keep }) plain;

@@ -76,7 +76,7 @@ plain_basis report l presentation keyless = (λ i. if is_counted report then fra
     by true = refl
     by false = refl
 
-module _ (finds : Finds) (l r : Loaded) (report : Report) (config : Config) (can : CanSave l.profile config.presentation) (is : IsSavedOf finds l config r) where
+module _ (finds : Finds) (l r : Loaded) (report : Report) (config : Config) (can : CanSave l.profile config.presentation) (is : IsSavedOf finds l config.filtering r) where
   abbrev f : Finders
   f = report_finders finds l report config.filtering
 
@@ -154,7 +154,7 @@ on_staying P top tree peek folded table reports.Changes stays = absurd (false≢
 on_staying P top tree peek folded table reports.Account stays = absurd (false≢true stays)
 
 module _ (finds : Finds) (l r : Loaded) (config : Config) (by_keys : config.presentation.path_tree ≡ false) (s : Showing) (within : IsColumnOf l.profile s.column)
-    (can : CanSave l.profile config.presentation) (is : IsSavedOf finds l config r) where
+    (can : CanSave l.profile config.presentation) (is : IsSavedOf finds l config.filtering r) where
   -- the report comes to the same text
   abbrev IsSame : Report → Type 0
   IsSame report = finish_on finds r report (unfiltered config) s ≡ finish_on finds l report config s

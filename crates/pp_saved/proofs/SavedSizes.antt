@@ -109,4 +109,4 @@ module _ (p : Profile) (f : Finders) (filtering : Filtering) (column : ℕ) (wit
 
 -- All columns.
 pub saved_sizes : SavedSizes
-saved_sizes p f config column valid within = sizes_within p f config.filtering column within valid
+saved_sizes p f filtering column valid within = sizes_within p f filtering column within valid

@@ -3,11 +3,13 @@ use Rattle.std.specs.Prelude.{◌≡◌, ◌<◌, ◌≤◌, ◌^◌, ℕ, List,
 use Rattle.std.specs.List.{AllByRecursion}
 use Rattle.pp_model.specs.declared.config.Config.{Config}
 use Rattle.pp_model.specs.declared.profile.Profile.{Profile}
+use Rattle.pp_model.specs.declared.filtering.Filtering.{Filtering}
 use Rattle.pp_model.specs.Conditions.{IsColumnOf}
 use Rattle.pp_model.specs.Finders.{Finders, no_finders}
 use Rattle.pp_units.specs.Head.{Facts}
 use Rattle.pp_model.specs.Rules.{NoRuleFails}
 use Rattle.pp_model.specs.Sizes.{absolute_sum}
+use Rattle.pp_model.specs.Defaults.{standard_filtering}
 use Rattle.pp_merge.specs.Merge.{merged}
 use Rattle.pp_count.specs.Column.{column_of}
 use Rattle.pp_count.specs.Counted.{has_own_match}
@@ -66,11 +68,10 @@ SavedLasts =
 
 -- Such a profile is itself when it is saved without filters. So saving a saved profile again changes nothing.
 abbrev pub SavedWhole : Type 0
-SavedWhole = (p : Profile) (config : Config) → IsLasting p
-    → saved p no_finders (unfiltered config).filtering ≡ p
+SavedWhole = (p : Profile) → IsLasting p → saved p no_finders standard_filtering ≡ p
 
 -- The absolute values of a column add up to no more in the saved profile, so it can be merged where the other one can.
 abbrev pub SavedSizes : Type 0
 SavedSizes =
-    (p : Profile) (f : Finders) (config : Config) (column : ℕ) → NoRuleFails p → column < length p.sample_type
-    → absolute_sum (saved p f config.filtering) column ≤ absolute_sum p column
+    (p : Profile) (f : Finders) (filtering : Filtering) (column : ℕ) → NoRuleFails p → column < length p.sample_type
+    → absolute_sum (saved p f filtering) column ≤ absolute_sum p column

@@ -59,18 +59,18 @@ pub record ReportsAlike (finds : Finds) (l r : Loaded) (c : Config) : Type 0 whe
 abbrev pub ReportsAsFiltered : Finds → Loaded → Config → Type 0
 ReportsAsFiltered finds l config =
     (c : Config) → HasFiltersOf config c → CountsFiltered c.presentation → IsPlain c.presentation
-    → (r : Loaded) → IsSavedOf finds l config r → ReportsAlike finds l r c
+    → (r : Loaded) → IsSavedOf finds l config.filtering r → ReportsAlike finds l r c
 
 -- The text of a proto report.
 pub record IsSavedText (finds : Finds) (l : Loaded) (config : Config) (text : List ℕ) : Type 0 where
   -- it is the canonical bytes of the saved profile, and is read as that profile
-  pub bytes : text ≡ encode (saved_by finds l config)
-  pub again : read text ≡ Ok (saved_by finds l config)
+  pub bytes : text ≡ encode (saved_by finds l config.filtering)
+  pub again : read text ≡ Ok (saved_by finds l config.filtering)
   -- no table rule fails in it, merged alone it stays as it is, and no frames are dropped or kept by patterns of its own
-  pub lasts : IsLasting (saved_by finds l config)
+  pub lasts : IsLasting (saved_by finds l config.filtering)
   -- its columns can be added up, so that it is merged
   pub sums : (column : ℕ) → column < length l.profile.sample_type
-      → absolute_sum (saved_by finds l config) column ≤ 2 ^ 63 - 1
+      → absolute_sum (saved_by finds l config.filtering) column ≤ 2 ^ 63 - 1
   -- it reports as its filters did
   pub reports : IsSource l.profile → ReportsAsFiltered finds l config
 

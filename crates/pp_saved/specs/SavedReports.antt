@@ -7,6 +7,7 @@ use Rattle.pp_model.specs.declared.report.BaseKind.{BaseKind}
 use Rattle.pp_model.specs.declared.report.Report.{Report}
 use Rattle.pp_model.specs.declared.report.Report.TheVariants as reports
 use Rattle.pp_model.specs.declared.presentation.Presentation.{Presentation}
+use Rattle.pp_model.specs.declared.filtering.Filtering.{Filtering}
 use Rattle.pp_model.specs.Conditions.{IsColumnOf}
 use Rattle.pp_pattern.specs.Report.{Finds}
 use Rattle.pp_pseudo.specs.KeyList.{key_list}
@@ -18,13 +19,13 @@ use Rattle.pp_saved.specs.Premises.{CanSave, unfiltered}
 use Rattle.pp_saved.specs.StaysSaved.{stays_saved}
 
 -- the profile that a proto report writes
-abbrev pub saved_by : Finds → Loaded → Config → Profile
-saved_by finds l config =
-    saved l.profile (report_finders finds l reports.Proto config.filtering) config.filtering
+abbrev pub saved_by : Finds → Loaded → Filtering → Profile
+saved_by finds l filtering =
+    saved l.profile (report_finders finds l reports.Proto filtering) filtering
 
 -- The profile is what a proto report of the other one writes, loaded without any pattern of its own.
-pub record IsSavedOf (finds : Finds) (l : Loaded) (config : Config) (r : Loaded) : Type 0 where
-  pub profile : r.profile ≡ saved_by finds l config
+pub record IsSavedOf (finds : Finds) (l : Loaded) (filtering : Filtering).filtering (r : Loaded) : Type 0 where
+  pub profile : r.profile ≡ saved_by finds l filtering
   pub drop : r.drop ≡ None
   pub keep : r.keep ≡ None
 
@@ -54,4 +55,4 @@ SavedReports =
     (finds : Finds) (l r : Loaded) (report : Report) (config : Config)
     → stays_saved report ≡ true → CanSave l.profile config.presentation
     → IsPlain config.presentation
-    → IsSavedOf finds l config r → ReportAlike finds l r report config (unfiltered config)
+    → IsSavedOf finds l config.filtering r → ReportAlike finds l r report config (unfiltered config)

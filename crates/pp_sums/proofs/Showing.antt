@@ -83,11 +83,11 @@ module _ (p : Profile) (f : Finders) (config : Config) (column : Option ℕ) whe
       ]
 
   -- the tagged samples have the values of those that are seen
-  whole_among : (samples : List Sample) → whole (map (sample_with_tags p f config column) (filtered_samples p f config.filtering samples)) ≡ whole (seen_samples p f config column samples)
+  whole_among : (samples : List Sample) → whole (map (sample_with_tags p f config.presentation column) (filtered_samples p f config.filtering samples)) ≡ whole (seen_samples p f config column samples)
   whole_among [] = refl
   whole_among (s ∷ samples) =
       elim (filtered_stack p f config.filtering s) as (λ (o : Option (List Frame)).
-      whole (map (sample_with_tags p f config column) (cond (is_some o) (s ∷ filtered_samples p f config.filtering samples) (filtered_samples p f config.filtering samples)))
+      whole (map (sample_with_tags p f config.presentation column) (cond (is_some o) (s ∷ filtered_samples p f config.filtering samples) (filtered_samples p f config.filtering samples)))
       ≡ whole (cons_option (option_map (seen_with p config column s) o) (seen_samples p f config column samples))) [
         | None ↦ whole_among samples
         | Some stack ↦ ap (λ v. selected column config.presentation.divide_by s +ℤ v) (whole_among samples)
