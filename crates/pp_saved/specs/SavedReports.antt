@@ -24,7 +24,7 @@ saved_by finds l filtering =
     saved l.profile (report_finders finds l reports.Proto filtering) filtering
 
 -- The profile is what a proto report of the other one writes, loaded without any pattern of its own.
-pub record IsSavedOf (finds : Finds) (l : Loaded) (filtering : Filtering).filtering (r : Loaded) : Type 0 where
+pub record IsSavedOf (finds : Finds) (l : Loaded) (filtering : Filtering) (r : Loaded) : Type 0 where
   pub profile : r.profile ≡ saved_by finds l filtering
   pub drop : r.drop ≡ None
   pub keep : r.keep ≡ None

@@ -5,7 +5,7 @@ use Rattle.pp_model.proofs.environment.Environment.copy.Goals as goal
 -- each variable is the one that was copied
 pub returns : goal.returns
 returns c =
-    same_environment _ _ record {
+    same_environment _ c.args.self.now record {
       source_path = c.in_ok-source_path.ensures;
       trim_path = c.in_ok-trim_path.ensures;
       workers = refl;

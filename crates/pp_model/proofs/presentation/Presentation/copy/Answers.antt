@@ -7,7 +7,7 @@ use Rattle.pp_model.proofs.presentation.Presentation.copy.Goals as goal
 pub returns : goal.returns
 returns c =
     let fits : FitsSigned w32 c.args.self.now.nodecount = search rules in
-    same_presentation _ _ record {
+    same_presentation _ c.args.self.now record {
       sort = refl;
       path_tree = refl;
       nodecount = to_z-of_z w32 _ fits;
