@@ -3,11 +3,11 @@
 
 usage: hostile.py [--counts N,N] [--shapes NAME,NAME] [--size PARTS] [--list] [--jobs N] PROGRAM
 
-First come files whose entries meet in a few slots of hash tables, if these hash with a known seed: scripts/hostile.c, which
+The entries of some files meet in a few slots of hash tables, if these hash with a known seed: scripts/hostile.c, which
 needs a C compiler (CC, or cc), writes one of each kind, and a plain one of the same shape. The hostile one may take 1.5 times
 the plain one's time, and 30 milliseconds.
 
-Then come files that are long in one way: a function with 1,000,000 lines in one location, and so on. Every report is run on
+Other files are long in one way: a function with 1,000,000 lines in one location, and so on. Every report is run on
 each. One that takes more than 2 seconds is run on a file of a quarter of the size too, and must not take more than 8 times
 that: with a square it takes 16. Both are tried again, side by side, before that is said. --size is the size of the long files, in
 hundredths.

@@ -7,8 +7,7 @@ use Rattle.pp_model.specs.declared.config.Config.{Config}
 use Rattle.pp_model.specs.declared.profile.Profile.{Profile}
 use Rattle.pp_model.specs.Finders.{Finders}
 use Rattle.pp_graph.specs.Trim.{first_report_keys}
-use Rattle.pp_export.specs.Escaped.{cell_text}
-use Rattle.pp_export.specs.Table.{behind_slash, cell, last_cell}
+use Rattle.pp_cells.specs.Cells.{behind_slash, cell, cell_text, last_cell}
 use Rattle.pp_compare.specs.declared.difference.Difference.{Difference}
 use Rattle.pp_compare.specs.Compare.{ComparedRow, compared_row}
 

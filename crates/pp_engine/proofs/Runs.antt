@@ -18,7 +18,7 @@ use Rattle.pp_desk.specs.Effects.{ToErr, Outside, outside, Did}
 use Rattle.pp_desk.specs.Lines.{lines_of}
 use Rattle.pp_desk.specs.Reader.{IsLeftBehind}
 use Rattle.pp_desk.specs.Went.{Went, parts, Ways, Goes, Halts, HasFailed, IsTakenOn}
-use Rattle.pp_desk.specs.World.{Told, Faults, Later, HasTaken, intake, World}
+use Rattle.pp_desk.specs.World.{Told, Faults, Later, HasTaken, World}
 use Rattle.pp_desk.proofs.Closing.{did_more, given_is}
 use Rattle.pp_desk.proofs.Coursing.{whole_course, front_course}
 use Rattle.pp_desk.proofs.Going.{later_same, taken_taken}
@@ -103,10 +103,6 @@ taken_whole finds words a b x w = (parts w).input.0
 pub taken_front : (finds : Finds) (words : List (List ℕ)) (a b c : World) (line : List ℕ) (s : Stop) → Went a b (session finds words) (Err s) → Closes b c line → HasTaken a.intake c.intake
 unfolding IsTakenOn
 taken_front finds words a b c line s w t = taken_taken a.intake b.intake c.intake (parts w).input.0 t.input.0
-
--- from a fresh reader on, no more than the limit is taken
-pub takes_few : (old new : Option (List ℕ)) (most left : ℕ) → HasTaken (intake old most) (intake new left) → TakesFront most old new
-takes_few old new most left t = record { taken = t.taken; few = omega (arith, t.room); front = t.front }
 
 -- the objects are the same ones at the end
 pub same_whole : (finds : Finds) (words : List (List ℕ)) (a b : World) (x : Cause) → Went a b (session finds words) (Ok x) → b.names ≡ a.names

@@ -2,15 +2,12 @@
 use Rattle.std.proofs.Common.{◌≡◌, pos, negsuc, [], ◌∷◌, ◌++◌, refl}
 use Rattle.std.specs.Prelude.{codes}
 use Rattle.std.specs.Fmt.{digits}
-use Rattle.pp_export.specs.Escaped.{escaped_name, cell_text}
+use Rattle.pp_export.specs.Escaped.{escaped_name}
 use Rattle.pp_export.specs.Table.{exact_heading, row_line}
 
 -- a name that other programs would cut
 frame : escaped_name (codes "f;g\nh") ≡ codes "f:g h"
 frame = refl
-
-cell : cell_text (9 ∷ 92 ∷ 97 ∷ []) ≡ 92 ∷ 116 ∷ 92 ∷ 92 ∷ 97 ∷ []
-cell = refl
 
 -- the unit stands behind both sums, and nothing where none is known
 with_unit : exact_heading (codes "ms") ≡ codes "flat/ms" ++ 9 ∷ codes "cum/ms" ++ 9 ∷ codes "name\n"

@@ -1,5 +1,5 @@
 -- The text of the table report: a line for each key that occurs, with its two sums.
-use Rattle.std.specs.Prelude.{ℕ, ◌==◌, List, [], ◌∷◌, ◌++◌, length, map, codes, Option, if◌then◌else◌}
+use Rattle.std.specs.Prelude.{ℕ, List, ◌++◌, map, codes, Option}
 use Rattle.std.specs.List.{flat_map}
 use Rattle.std.specs.Fmt.{signed_decimal}
 use Rattle.pp_model.specs.declared.config.Config.{Config}
@@ -8,19 +8,7 @@ use Rattle.pp_model.specs.Finders.{Finders}
 use Rattle.pp_count.specs.Counted.{report_samples}
 use Rattle.pp_graph.specs.KeyRows.{KeyRow, key_row}
 use Rattle.pp_graph.specs.Trim.{first_report_keys}
-use Rattle.pp_export.specs.Escaped.{tab, line_feed, cell_text}
-
--- the unit behind a `/`, where there is one
-abbrev pub behind_slash : List ℕ → List ℕ
-behind_slash unit = if length unit == 0 then [] else codes "/" ++ cell_text unit
-
--- a cell, and the tab that ends it
-abbrev pub cell : List ℕ → List ℕ
-cell text = text ++ tab ∷ []
-
--- a cell, and the line feed that ends its row
-abbrev pub last_cell : List ℕ → List ℕ
-last_cell text = text ++ line_feed ∷ []
+use Rattle.pp_cells.specs.Cells.{behind_slash, cell, cell_text, last_cell}
 
 -- the line above the rows, whose values are in this unit
 abbrev pub exact_heading : List ℕ → List ℕ

@@ -1,8 +1,8 @@
-//! Names and units in the texts of other programs.
+//! Names in the texts of other programs.
 ghost use Rattle.std.specs.Prelude.{◌≡◌, ◌++◌, IfOk};
-ghost use Rattle.pp_export.specs.Escaped.{escaped_name, frame_byte, cell_byte, cell_text};
+ghost use Rattle.pp_export.specs.Escaped.{escaped_name, frame_byte};
 
-use pp_base::{Memory, Text};
+use pp_base::Memory;
 
 /// Appends the name as it stands in a path.
 pub fn put_frame_name(name: &[u8], text: &mut Vec<u8>) -> Result<(), Memory>
@@ -31,27 +31,5 @@ fn frame_byte(byte: u8) -> u8
         b';' => b':',
         b'\n' | b'\r' => b' ',
         _ => byte,
-    }
-}
-
-/// Appends the text as a cell of a table.
-pub fn put_cell(text: &[u8], out: &mut Text) -> Result<(), Memory>
-    ensures { IfOk result (λ _. out.new ≡ out.old ++ cell_text text.now) }
-{
-    for byte in text {
-        put_cell_byte(*byte, out)?;
-    }
-    Ok(())
-}
-
-fn put_cell_byte(byte: u8, out: &mut Text) -> Result<(), Memory>
-    ensures { IfOk result (λ _. out.new ≡ out.old ++ cell_byte byte) }
-{
-    match byte {
-        b'\t' => out.extend(b"\\t"),
-        b'\n' => out.extend(b"\\n"),
-        b'\r' => out.extend(b"\\r"),
-        b'\\' => out.extend(b"\\\\"),
-        _ => out.extend(&[byte]),
     }
 }

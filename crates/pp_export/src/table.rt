@@ -10,8 +10,8 @@ ghost use Rattle.pp_graph.specs.KeyRows.{row_at, CanShow};
 ghost use Rattle.pp_graph.specs.Trimmed.{IsWholeRanking};
 ghost use Rattle.pp_export.specs.Table.{exact_heading, row_line, table_rows, exact_table};
 
-use crate::cells::{put_heading_cell, put_name_cell, put_value_cell};
 use pp_base::{Memory, Text};
+use pp_cells::{put_heading_cell, put_name_cell, put_value_cell};
 use pp_count::{Counted, Sums};
 use pp_graph::Ranked;
 use pp_model::Loaded;

@@ -8,13 +8,11 @@ use Rattle.pp_model.specs.declared.config.Config.{Config}
 use Rattle.pp_model.specs.declared.loaded.Loaded.{Loaded}
 use Rattle.pp_model.specs.declared.profile.Profile.{Profile}
 use Rattle.pp_model.specs.declared.report.Report.{Report}
-use Rattle.pp_model.specs.declared.verdicts.Verdicts.{Verdicts}
 use Rattle.pp_model.specs.declared.filtering.Filtering.{Filtering}
 use Rattle.pp_model.specs.declared.presentation.Presentation.{Presentation}
 use Rattle.pp_model.specs.ReportFacts.{shows_values, is_counted}
 use Rattle.pp_pattern.specs.Report.{Finds}
 use Rattle.pp_units.specs.Shown.{Shown, shown}
-use Rattle.pp_count.specs.declared.counted.Counted.{Counted}
 use Rattle.pp_count.specs.Column.{column_of}
 use Rattle.pp_count.specs.Counted.{CanCount, IsCountedOf}
 use Rattle.pp_count.specs.Seeing.{HoldsFilters}

@@ -2,7 +2,7 @@ use Rattle.std.proofs.Common.{w64, FitsSigned, rules}
 use Rattle.std.specs.Fmt.{signed_decimal}
 use Rattle.std.proofs.lemmas.Int.{to_z-of_z}
 use Rattle.pp_base.proofs.TextLemmas.{joined}
-use Rattle.pp_export.specs.Table.{cell}
+use Rattle.pp_cells.specs.Cells.{cell}
 use Rattle.pp_compare.proofs.changes.put_figures.Goals as goal
 
 pub returns : goal.returns

@@ -4,8 +4,7 @@ use Rattle.pp_grain.specs.Keys.{key_written}
 use Rattle.pp_grain.specs.Naming.{name_text}
 use Rattle.pp_count.specs.Table.{written_key}
 use Rattle.pp_graph.proofs.KeyRowLemmas.{name_written}
-use Rattle.pp_export.specs.Escaped.{cell_text}
-use Rattle.pp_export.specs.Table.{last_cell}
+use Rattle.pp_cells.specs.Cells.{cell_text, last_cell}
 use Rattle.pp_compare.specs.Changes.{exact_figures}
 use Rattle.pp_compare.specs.Rows.{figures_at}
 use Rattle.pp_compare.proofs.changes.put_line.Goals as goal

@@ -1,10 +1,4 @@
-use Rattle.std.proofs.Common.{subst}
-use Rattle.std.specs.Prelude.{Ok}
-use Rattle.std.proofs.lemmas.Result.{IfOk-at_ok}
-use Rattle.pp_desk.specs.Went.{Went}
-use Rattle.pp_report.specs.Prepared.{settled_by, showing}
-use Rattle.pp_report.specs.Reports.{finish}
-use Rattle.pp_engine.proofs.Serving.{refused_early, notes_stopped, report_finished}
+use Rattle.pp_engine.proofs.Serving.{refused_early}
 use Rattle.pp_engine.proofs.reporting.noted_report.Goals as goal
 
 -- it is refused before its notes are known

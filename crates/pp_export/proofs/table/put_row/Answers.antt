@@ -5,8 +5,7 @@ use Rattle.pp_base.proofs.TextLemmas.{joined, put_is}
 use Rattle.pp_grain.specs.Naming.{name_text}
 use Rattle.pp_count.specs.Table.{written_key}
 use Rattle.pp_graph.proofs.KeyRowLemmas.{name_written}
-use Rattle.pp_export.specs.Escaped.{cell_text}
-use Rattle.pp_export.specs.Table.{cell, last_cell}
+use Rattle.pp_cells.specs.Cells.{cell, cell_text, last_cell}
 use Rattle.pp_export.proofs.table.put_row.Goals as goal
 
 pub returns : goal.returns

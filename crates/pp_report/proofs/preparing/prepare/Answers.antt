@@ -1,5 +1,5 @@
 use Rattle.std.proofs.Common.{◌≡◌, true, false, refl, rules, sym, ap, ◌∙◌, subst}
-use Rattle.std.specs.Prelude.{Ok, Err}
+use Rattle.std.specs.Prelude.{Err}
 use Rattle.std.specs.Result.{result_map_both}
 use Rattle.std.proofs.lemmas.Result.{err_from_is_err_and, IfOk-at_ok}
 use Rattle.pp_desk.proofs.Going.{wants}
@@ -7,7 +7,7 @@ use Rattle.pp_model.specs.declared.loaded.Loaded.{Loaded}
 use Rattle.pp_model.specs.Conditions.{IsColumnOf}
 use Rattle.pp_model.specs.ReportFacts.{is_counted}
 use Rattle.pp_report.specs.declared.refusal.ReportRefusal.{ReportRefusal}
-use Rattle.pp_report.specs.Prepared.{showing, counts_settled}
+use Rattle.pp_report.specs.Prepared.{showing}
 use Rattle.pp_report.specs.Tagged.{basis_of}
 use Rattle.pp_report.proofs.PreparingLemmas.{prepare_refused, prepare_uncounted, prepare_counted, basis_counted, none_prepared, counts_prepared}
 use Rattle.pp_report.proofs.TypesLemmas.{basis_shows, basis_types, same_bound}

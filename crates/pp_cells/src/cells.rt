@@ -3,10 +3,8 @@ ghost use Rattle.std.specs.Prelude.{◌≡◌, ◌++◌, IfOk};
 ghost use Rattle.std.specs.Fmt.{signed_decimal};
 ghost use Rattle.pp_grain.specs.Keys.{IsKeyOf, key_written};
 ghost use Rattle.pp_grain.specs.Naming.{name_text};
-ghost use Rattle.pp_export.specs.Escaped.{cell_text};
-ghost use Rattle.pp_export.specs.Table.{behind_slash, cell, last_cell};
+ghost use Rattle.pp_cells.specs.Cells.{behind_slash, cell, cell_byte, cell_text, last_cell};
 
-use crate::escaped::put_cell;
 use itoa::Buffer;
 use pp_base::{Memory, Text};
 use pp_grain::{Key, write_name};
@@ -54,4 +52,26 @@ pub fn put_name_cell(
     write_name(l, key, scratch)?;
     put_cell(scratch.as_slice(), out)?;
     out.extend(b"\n")
+}
+
+// Appends the text as a cell of a table.
+fn put_cell(text: &[u8], out: &mut Text) -> Result<(), Memory>
+    ensures { IfOk result (λ _. out.new ≡ out.old ++ cell_text text.now) }
+{
+    for byte in text {
+        put_cell_byte(*byte, out)?;
+    }
+    Ok(())
+}
+
+fn put_cell_byte(byte: u8, out: &mut Text) -> Result<(), Memory>
+    ensures { IfOk result (λ _. out.new ≡ out.old ++ cell_byte byte) }
+{
+    match byte {
+        b'\t' => out.extend(b"\\t"),
+        b'\n' => out.extend(b"\\n"),
+        b'\r' => out.extend(b"\\r"),
+        b'\\' => out.extend(b"\\\\"),
+        _ => out.extend(&[byte]),
+    }
 }

@@ -1,7 +1,7 @@
 use Rattle.std.proofs.Common.{◌≡◌, ◌++◌, take}
 use Rattle.std.specs.List.{flat_map}
-use Rattle.pp_export.specs.Escaped.{cell_byte}
-use Rattle.pp_export.proofs.escaped.put_cell.Given as goal
+use Rattle.pp_cells.specs.Cells.{cell_byte}
+use Rattle.pp_cells.proofs.cells.put_cell.Given as goal
 
 -- the bytes so far
 abbrev pub invariant-loop-byte : goal.invariant-loop-byte
