@@ -130,16 +130,16 @@ impl<'a> CallTree<'a> {
         config: &'a Config,
         column: Option<u32>,
     ) -> Result<CallTree<'a>, Memory>
-        requires can { CanCount l.now.profile v.now config.now column }
+        requires can { CanCount l.now.profile v.now config.now.filtering column }
         requires counted { IsCountedOf l.now v.now config.now column c.now }
         ensures tree { IfOk result (IsTreeOf l.now v.now config.now column) }
 
         // First children and next siblings walk the paths of the samples that put keys into the report.
-        ensures walk { (f : Finders) → HoldsFilters l.now v.now config.now f →
+        ensures walk { (f : Finders) → HoldsFilters l.now v.now config.now.filtering f →
             IfOk result (IsWalkOf l.now.profile f config.now column) }
 
         // For each name of the sums, the flats of its nodes add up to its flat.
-        ensures flats { (f : Finders) → HoldsFilters l.now v.now config.now f →
+        ensures flats { (f : Finders) → HoldsFilters l.now v.now config.now.filtering f →
             IfOk result (λ t. map (flats_at l.now.profile t) (written_names l.now.profile c.now.sums)
             ≡ c.now.sums.flat) }
     {
@@ -204,6 +204,7 @@ fn scope_of<'a>(survey: &Survey<'a>) -> Scope<'a>
         l: survey.l,
         v: survey.v,
         config: survey.config,
+        grouping: survey.config.grouping,
         filters: survey.filters(),
         column: survey.column,
         table: survey.table(),

@@ -93,9 +93,15 @@ fn add_sample(scope: &Scope, paths: &mut Paths, sample: &Sample, keys: &[u64]) -
     requires { IsSoundScope scope.now }
     ensures { (samples : Seq (Seen ℕ)) → AreKeptAs paths.old samples →
         IfOk result (λ _. AreKeptAs paths.new (samples ++ rooted_if
-        (selected scope.now.column scope.now.config.now.divide_by sample.now) keys.now)) }
+        (selected scope.now.column scope.now.config.now.presentation.divide_by sample.now)
+        keys.now)) }
 {
-    let value = selected(scope.l, sample, scope.column, scope.config.divide_by);
+    let value = selected(
+        scope.l,
+        sample,
+        scope.column,
+        scope.config.presentation.divide_by,
+    );
     add_path(paths, value, keys)
 }
 

@@ -30,9 +30,9 @@ wrapped_is base change small apart = λ i. record {
   swapped : change -ℤ base ≡ neg_ℤ base +ℤ change
   swapped = omega (arith, ints)
 
-module _ (p : Profile) (f : Finders) (config : Config) (column : Option ℕ) (small : absolute_all column config.divide_by p.sample < 2 ^ 63) where
+module _ (p : Profile) (f : Finders) (config : Config) (column : Option ℕ) (small : absolute_all column config.presentation.divide_by p.sample < 2 ^ 63) where
   abbrev size : Sample → ℕ
-  size s = nat_abs (selected column config.divide_by s)
+  size s = nat_abs (selected column config.presentation.divide_by s)
 
   -- sums by what each sample adds, of the base's samples and of all
   differs : (g : Sample → ℤ) → ((s : Sample) → nat_abs (g s) ≤ size s) → (base change : ℤ)

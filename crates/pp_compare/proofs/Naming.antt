@@ -5,8 +5,8 @@ use Rattle.std.proofs.lemmas.List.{get_or-map, length-map}
 use Rattle.std.proofs.lemmas.List.Elements.{All-head, All-tail}
 use Rattle.std.proofs.Math.ListN as math
 use Rattle.pp_model.specs.declared.config.Config.{Config}
-use Rattle.pp_model.specs.declared.config.Sort.{Sort}
-use Rattle.pp_model.specs.declared.config.Sort.TheVariants as sorts
+use Rattle.pp_model.specs.declared.presentation.Sort.{Sort}
+use Rattle.pp_model.specs.declared.presentation.Sort.TheVariants as sorts
 use Rattle.pp_model.specs.declared.profile.Profile.{Profile}
 use Rattle.pp_model.specs.Finders.{Finders}
 use Rattle.pp_model.specs.FrameTexts.{Written}
@@ -34,7 +34,7 @@ at_name g p names sums n within are =
     ∙ get_or-map g (map (key_written p) names) n (key_written p no_key) (pos 0) (omega (arith, within, length-map names (key_written p)))
     ∙ ap g (math.get_or-map (key_written p) names n no_key)
 
-module _ (p : Profile) (f : Finders) (config : Config) (column : Option ℕ) (small : absolute_all column config.divide_by p.sample < 2 ^ 63)
+module _ (p : Profile) (f : Finders) (config : Config) (column : Option ℕ) (small : absolute_all column config.presentation.divide_by p.sample < 2 ^ 63)
     (sums : Sums) (base : BaseSums) (are : AreSumsOf p (report_samples p f config column) sums) (base_are : AreBaseSums p f config column sums base) where
   abbrev all_samples : List (Seen Written)
   all_samples = report_samples p f config column
@@ -53,12 +53,12 @@ module _ (p : Profile) (f : Finders) (config : Config) (column : Option ℕ) (sm
 
   -- the lines of names are those of their keys
   pub rows_are : (line : ComparedRow → List ℕ) (order : List ℕ) → All (λ n. n < length sums.names) order
-      → flat_map (λ n. line (compared_at p config.sort sums base n)) order
+      → flat_map (λ n. line (compared_at p config.presentation.sort sums base n)) order
       ≡ flat_map (λ k. line (compared_row p f config column k)) (map (written_key p sums.names) order)
   rows_are line [] below = refl
   rows_are line (n ∷ order) below = λ i.
       line (record {
-        figures = figures_are config.sort n (All-head (λ m. m < length sums.names) n order below) i;
+        figures = figures_are config.presentation.sort n (All-head (λ m. m < length sums.names) n order below) i;
         name = name_text (written_key p sums.names n);
       })
       ++ rows_are line order (All-tail (λ m. m < length sums.names) n order below) i

@@ -78,9 +78,9 @@ module _ (t : List Written → Bool) where
     seen_sum (s ∷ ss) =
         adds_first (seen p f config column s) (seen_samples p f config column ss) ∙ ap (λ z. seen_adds s +ℤ z) (seen_sum ss)
 
-    pub seen_within : (s : Sample) → nat_abs (seen_adds s) ≤ nat_abs (selected column config.divide_by s)
+    pub seen_within : (s : Sample) → nat_abs (seen_adds s) ≤ nat_abs (selected column config.presentation.divide_by s)
     seen_within s =
-        elim (filtered_stack p f config s) as (λ (o : Option (List Frame)). nat_abs (adds (option_map (seen_with p config column s) o)) ≤ nat_abs (selected column config.divide_by s)) [
+        elim (filtered_stack p f config.filtering s) as (λ (o : Option (List Frame)). nat_abs (adds (option_map (seen_with p config column s) o)) ≤ nat_abs (selected column config.presentation.divide_by s)) [
           | None ↦ omega arith
           | Some stack ↦ adds_within (seen_with p config column s stack)
         ]
@@ -88,21 +88,21 @@ module _ (t : List Written → Bool) where
 module _ (p : Profile) (f : Finders) (config : Config) (column : Option ℕ) where
   -- what a sample adds to the sum of all that the filters leave
   abbrev pub whole_adds : Sample → ℤ
-  whole_adds s = cond (is_some (filtered_stack p f config s)) (selected column config.divide_by s) (pos 0)
+  whole_adds s = cond (is_some (filtered_stack p f config.filtering s)) (selected column config.presentation.divide_by s) (pos 0)
 
-  pub whole_sum : (ss : List Sample) → selected_all column config.divide_by (filtered_samples p f config ss) ≡ sum_over whole_adds ss
+  pub whole_sum : (ss : List Sample) → selected_all column config.presentation.divide_by (filtered_samples p f config.filtering ss) ≡ sum_over whole_adds ss
   whole_sum [] = refl
   whole_sum (s ∷ ss) =
-      let rest : selected_all column config.divide_by (filtered_samples p f config ss) ≡ sum_over whole_adds ss = whole_sum ss in
-      elim (is_some (filtered_stack p f config s)) as (λ b. selected_all column config.divide_by (cond b (s ∷ filtered_samples p f config ss) (filtered_samples p f config ss))
-      ≡ cond b (selected column config.divide_by s) (pos 0) +ℤ sum_over whole_adds ss) [
-        | true ↦ ap (λ z. selected column config.divide_by s +ℤ z) rest
+      let rest : selected_all column config.presentation.divide_by (filtered_samples p f config.filtering ss) ≡ sum_over whole_adds ss = whole_sum ss in
+      elim (is_some (filtered_stack p f config.filtering s)) as (λ b. selected_all column config.presentation.divide_by (cond b (s ∷ filtered_samples p f config.filtering ss) (filtered_samples p f config.filtering ss))
+      ≡ cond b (selected column config.presentation.divide_by s) (pos 0) +ℤ sum_over whole_adds ss) [
+        | true ↦ ap (λ z. selected column config.presentation.divide_by s +ℤ z) rest
         | false ↦ omega (arith, ints, rest)
       ]
 
-  pub whole_within : (s : Sample) → nat_abs (whole_adds s) ≤ nat_abs (selected column config.divide_by s)
+  pub whole_within : (s : Sample) → nat_abs (whole_adds s) ≤ nat_abs (selected column config.presentation.divide_by s)
   whole_within s =
-      elim (is_some (filtered_stack p f config s)) as (λ b. nat_abs (cond b (selected column config.divide_by s) (pos 0)) ≤ nat_abs (selected column config.divide_by s)) [
+      elim (is_some (filtered_stack p f config.filtering s)) as (λ b. nat_abs (cond b (selected column config.presentation.divide_by s) (pos 0)) ≤ nat_abs (selected column config.presentation.divide_by s)) [
         | true ↦ omega arith
         | false ↦ omega arith
       ]

@@ -27,11 +27,11 @@ use Rattle.pp_compare.proofs.Fitting.{whole_differs}
 use Rattle.pp_compare.proofs.Naming.{rows_are}
 
 pub ranked_is : (l : Loaded) (v : Verdicts) (config : Config) (column : Option ℕ) (limit : ℕ) (f : Finders) (c : Counted) (base : BaseSums) (change : ℤ) (t : Ranked) (h : Facts)
-    → CanCount l.profile v config column → IsCountedOf l v config column c → IsRankedOf l v config column limit c t → HoldsFilters l v config f
+    → CanCount l.profile v config.filtering column → IsCountedOf l v config column c → IsRankedOf l v config column limit c t → HoldsFilters l v config.filtering f
     → AreBaseSums l.profile f config column c.sums base → change ≡ filtered_whole l.profile f config column l.profile.sample
-    → compared_ranking l.profile config.sort c.sums base change t h ≡ compare_text l.profile f config column limit h
+    → compared_ranking l.profile config.presentation.sort c.sums base change t h ≡ compare_text l.profile f config column limit h
 ranked_is l v config column limit f c base change t h can counted ranked holds base_are is_whole =
-    let small : absolute_all column config.divide_by l.profile.sample < 2 ^ 63 = values_fit l.profile column config.divide_by can.countable can.column in
+    let small : absolute_all column config.presentation.divide_by l.profile.sample < 2 ^ 63 = values_fit l.profile column config.presentation.divide_by can.countable can.column in
     let keys : List Written = report_keys l.profile f config column limit in
     let rows = rows_are l.profile f config column small c.sums base (counted.sums_are f holds) base_are (difference_line h.unit) t.order ranked.below
     ∙ ap (flat_map (λ k. difference_line h.unit (compared_row l.profile f config column k))) (ranked.keys f holds) in
@@ -42,15 +42,15 @@ ranked_is l v config column limit f c base change t h can counted ranked holds b
     λ i.
     facts_text h
     ++ (dropped_line lines.dropped_nodes (ranked.dropped_nodes f holds i) ++ limited_line (count i) (ranked.candidates f holds i))
-    ++ compare_heading config.sort ++ difference_line h.unit (record { figures = figures i; name = codes "(all)" })
+    ++ compare_heading config.presentation.sort ++ difference_line h.unit (record { figures = figures i; name = codes "(all)" })
     ++ rows i
 
 pub changes_are : (l : Loaded) (v : Verdicts) (config : Config) (column : Option ℕ) (limit : ℕ) (f : Finders) (c : Counted) (base : BaseSums) (t : Ranked) (unit : List ℕ)
-    → CanCount l.profile v config column → IsCountedOf l v config column c → IsWholeRanking l v config column limit c t → HoldsFilters l v config f
+    → CanCount l.profile v config.filtering column → IsCountedOf l v config column c → IsWholeRanking l v config column limit c t → HoldsFilters l v config.filtering f
     → AreBaseSums l.profile f config column c.sums base
-    → changes_heading unit ++ flat_map (λ n. change_line (compared_at l.profile config.sort c.sums base n)) t.order ≡ changes_text l.profile f config column limit unit
+    → changes_heading unit ++ flat_map (λ n. change_line (compared_at l.profile config.presentation.sort c.sums base n)) t.order ≡ changes_text l.profile f config column limit unit
 changes_are l v config column limit f c base t unit can counted ranked holds base_are =
-    let small : absolute_all column config.divide_by l.profile.sample < 2 ^ 63 = values_fit l.profile column config.divide_by can.countable can.column in
+    let small : absolute_all column config.presentation.divide_by l.profile.sample < 2 ^ 63 = values_fit l.profile column config.presentation.divide_by can.countable can.column in
     ap (λ rows. changes_heading unit ++ rows)
     (rows_are l.profile f config column small c.sums base (counted.sums_are f holds) base_are change_line t.order ranked.below
     ∙ ap (flat_map (λ k. change_line (compared_row l.profile f config column k))) (ranked.keys f holds))

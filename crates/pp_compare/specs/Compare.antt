@@ -4,8 +4,8 @@ use Rattle.std.specs.Prelude.{ℕ, ℤ, pos, neg_ℤ, ◌+ℤ◌, nat_abs, not, 
 use Rattle.std.specs.List.{flat_map}
 use Rattle.std.specs.Ordering.{int_eq}
 use Rattle.pp_model.specs.declared.config.Config.{Config}
-use Rattle.pp_model.specs.declared.config.Sort.{Sort}
-use Rattle.pp_model.specs.declared.config.Sort.TheVariants as sorts
+use Rattle.pp_model.specs.declared.presentation.Sort.{Sort}
+use Rattle.pp_model.specs.declared.presentation.Sort.TheVariants as sorts
 use Rattle.pp_model.specs.declared.profile.Profile.{Profile}
 use Rattle.pp_model.specs.declared.profile.Sample.{Sample}
 use Rattle.pp_model.specs.Finders.{Finders}
@@ -72,7 +72,8 @@ figure sorts.Cum samples k = cum key_cmp samples k
 -- the sum of the selected values of those of the samples that the filters leave
 abbrev pub filtered_whole : Profile → Finders → Config → Option ℕ → List Sample → ℤ
 filtered_whole p f config column samples =
-    selected_all column config.divide_by (filtered_samples p f config samples)
+    selected_all column config.presentation.divide_by
+    (filtered_samples p f config.filtering samples)
 
 -- the row of all samples that the filters leave
 abbrev pub whole_row : Profile → Finders → Config → Option ℕ → ComparedRow
@@ -84,8 +85,9 @@ whole_row p f config column = record {
 -- the row of a key
 abbrev pub compared_row : Profile → Finders → Config → Option ℕ → Written → ComparedRow
 compared_row p f config column k = record {
-  figures = difference_of (figure config.sort (base_report_samples p f config column) k)
-      (figure config.sort (report_samples p f config column) k);
+  figures =
+      difference_of (figure config.presentation.sort (base_report_samples p f config column) k)
+      (figure config.presentation.sort (report_samples p f config column) k);
   name = name_text k;
 }
 
@@ -97,5 +99,6 @@ compare_text p f config column limit h =
     facts_text h
     ++ (dropped_line lines.dropped_nodes (light_nodes p f config column)
     ++ limited_line (length keys) (length (candidate_keys p f config column)))
-    ++ compare_heading config.sort ++ difference_line h.unit (whole_row p f config column)
+    ++ compare_heading config.presentation.sort
+    ++ difference_line h.unit (whole_row p f config column)
     ++ flat_map (λ k. difference_line h.unit (compared_row p f config column k)) keys

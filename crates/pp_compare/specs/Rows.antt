@@ -2,8 +2,8 @@
 use Rattle.std.specs.Prelude.{ℕ, ℤ, neg_ℤ, ◌-ℤ◌, List, ◌++◌, codes, length}
 use Rattle.std.specs.Int.{w64, int_wrap}
 use Rattle.std.specs.List.{flat_map}
-use Rattle.pp_model.specs.declared.config.Sort.{Sort}
-use Rattle.pp_model.specs.declared.config.Sort.TheVariants as sorts
+use Rattle.pp_model.specs.declared.presentation.Sort.{Sort}
+use Rattle.pp_model.specs.declared.presentation.Sort.TheVariants as sorts
 use Rattle.pp_model.specs.declared.profile.Profile.{Profile}
 use Rattle.pp_units.specs.Head.{Facts, facts_text}
 use Rattle.pp_units.specs.Rows.{dropped_line, limited_line}

@@ -45,7 +45,7 @@ pub fn write_changes(
     ensures ok { (limit : ℕ) (f : Finders) →
         IsWholeRanking survey.now.l.now survey.now.v.now survey.now.config.now survey.now.column
         limit survey.now.counted.now t.now →
-        HoldsFilters survey.now.l.now survey.now.v.now survey.now.config.now f →
+        HoldsFilters survey.now.l.now survey.now.v.now survey.now.config.now.filtering f →
         AreBaseSums survey.now.l.now.profile f survey.now.config.now survey.now.column
         survey.now.counted.now.sums base.now →
         OnOk result (out.new ≡ out.old ++ changes_text survey.now.l.now.profile f
@@ -57,7 +57,7 @@ pub fn write_changes(
         l: survey.l,
         sums: &survey.counted.sums,
         base,
-        sort: survey.config.sort,
+        sort: survey.config.presentation.sort,
     };
     put_heading(unit, &mut text)?;
     put_lines(alloc, &table, t.order.as_slice(), &mut text)?;

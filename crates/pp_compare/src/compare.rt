@@ -37,7 +37,7 @@ pub fn write_compare(
     ensures ok { (limit : ℕ) (f : Finders) →
         IsRankedOf survey.now.l.now survey.now.v.now survey.now.config.now survey.now.column limit
         survey.now.counted.now t.now →
-        HoldsFilters survey.now.l.now survey.now.v.now survey.now.config.now f →
+        HoldsFilters survey.now.l.now survey.now.v.now survey.now.config.now.filtering f →
         AreBaseSums survey.now.l.now.profile f survey.now.config.now survey.now.column
         survey.now.counted.now.sums base.now →
         OnOk result (out.new ≡ out.old ++ compare_text survey.now.l.now.profile f
@@ -49,7 +49,7 @@ pub fn write_compare(
         l: survey.l,
         sums: &survey.counted.sums,
         base,
-        sort: survey.config.sort,
+        sort: survey.config.presentation.sort,
         head,
     };
     let change = counted_whole(survey);

@@ -60,7 +60,7 @@ pub fn count<R: Threads + Sync, G: Gate>(
     column: Option<u32>,
     gate: &G,
 ) -> Result<Counted, Memory>
-    requires { CanCount l.now.profile v.now config.now column }
+    requires { CanCount l.now.profile v.now config.now.filtering column }
     ensures { IfOk result (IsCountedOf l.now v.now config.now column) }
 {
     let by = table_and_filters(alloc, hash_keys, l, v, config)?;
@@ -83,13 +83,15 @@ fn table_and_filters(
     config: &Config,
 ) -> Result<(KeyTable, Filters), Memory>
     requires verdicts { HasVerdicts l.now.profile v.now }
-    requires focus { HasItsTags l.now.profile v.now.tag (filter_in_force config.now.tagfocus) }
-    requires ignore { HasItsTags l.now.profile v.now.tag (filter_in_force config.now.tagignore) }
-    ensures table { IfOk result (λ by. IsKeyTable l.now.profile config.now by.0) }
-    ensures filters { IfOk result (λ by. AreFilters l.now.profile v.now config.now by.1) }
+    requires focus { HasItsTags l.now.profile v.now.tag
+        (filter_in_force config.now.filtering.tagfocus) }
+    requires ignore { HasItsTags l.now.profile v.now.tag
+        (filter_in_force config.now.filtering.tagignore) }
+    ensures table { IfOk result (λ by. IsKeyTable l.now.profile config.now.grouping by.0) }
+    ensures filters { IfOk result (λ by. AreFilters l.now.profile v.now config.now.filtering by.1) }
 {
-    let table = key_table(alloc, hash_keys, l, config)?;
-    let filters = Filters::new(alloc, l, v, config)?;
+    let table = key_table(alloc, hash_keys, l, config.grouping)?;
+    let filters = Filters::new(alloc, l, v, &config.filtering)?;
     Ok((table, filters))
 }
 
@@ -142,7 +144,7 @@ fn count_whole<R: Threads + Sync, G: Gate>(
         AreCounted scope.now (samples_in_scope scope.now) whole.sofar) }
     ensures keyed { IfOk result (λ whole. AreKeyed scope.now whole.keyed) }
     ensures total { (f : Finders) →
-        HoldsFilters scope.now.l.now scope.now.v.now scope.now.config.now f →
+        HoldsFilters scope.now.l.now scope.now.v.now scope.now.config.now.filtering f →
         IfOk result (λ whole. whole.total
         ≡ total_of scope.now.l.now.profile f scope.now.config.now scope.now.column) }
 {

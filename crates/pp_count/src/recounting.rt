@@ -40,10 +40,10 @@ pub fn recount<R: Threads + Sync, G: Gate>(
     column: Option<u32>,
     gate: &G,
 ) -> Result<List<Edge>, Memory>
-    requires can { CanCount l.now.profile v.now config.now column }
+    requires can { CanCount l.now.profile v.now config.now.filtering column }
     requires counted { IsCountedOf l.now v.now config.now column counted.now }
     requires keep { length keep.now ≡ length counted.now.sums.names }
-    ensures edges { (f : Finders) → HoldsFilters l.now v.now config.now f →
+    ensures edges { (f : Finders) → HoldsFilters l.now v.now config.now.filtering f →
         IfOk result (λ edges. AreEdgesOf l.now.profile
         (report_samples l.now.profile f config.now column)
         counted.now.sums.names keep.now edges) }
@@ -74,7 +74,7 @@ pub fn edges<R: Threads + Sync, G: Gate>(
 ) -> Result<List<Edge>, Memory>
     requires { length keep.now ≡ length survey.now.counted.now.sums.names }
     ensures edges { (f : Finders) →
-        HoldsFilters survey.now.l.now survey.now.v.now survey.now.config.now f →
+        HoldsFilters survey.now.l.now survey.now.v.now survey.now.config.now.filtering f →
         IfOk result (λ edges. AreEdgesOf survey.now.l.now.profile
         (report_samples survey.now.l.now.profile f survey.now.config.now survey.now.column)
         survey.now.counted.now.sums.names keep.now edges) }
@@ -100,12 +100,12 @@ pub fn edges_about<R: Threads + Sync, G: Gate>(
 ) -> Result<List<Edge>, Memory>
     requires { length ends.now.keep.now ≡ length survey.now.counted.now.sums.names }
     ensures edges { (f : Finders) →
-        HoldsFilters survey.now.l.now survey.now.v.now survey.now.config.now f →
+        HoldsFilters survey.now.l.now survey.now.v.now survey.now.config.now.filtering f →
         IfOk result (λ edges. AreEdgesAbout survey.now.l.now.profile
         (report_samples survey.now.l.now.profile f survey.now.config.now survey.now.column)
         survey.now.counted.now.sums.names ends.now.keep.now ends.now.marked.now edges) }
     ensures all { (f : Finders) →
-        HoldsFilters survey.now.l.now survey.now.v.now survey.now.config.now f →
+        HoldsFilters survey.now.l.now survey.now.v.now survey.now.config.now.filtering f →
         ends.now.keep.now ≡ ends.now.marked.now →
         IfOk result (λ edges. AreEdgesOf survey.now.l.now.profile
         (report_samples survey.now.l.now.profile f survey.now.config.now survey.now.column)
@@ -144,6 +144,7 @@ fn pair_sums<'x, R: Threads + Sync, G: Gate>(
         l: survey.l,
         v: survey.v,
         config: survey.config,
+        grouping: survey.config.grouping,
         filters: &counted.filters,
         column: survey.column,
         table: &counted.table,

@@ -9,7 +9,7 @@ ghost use Rattle.pp_pattern.specs.Report.{AreVerdictsOf};
 use crate::refusal::Refused;
 use pp_base::List;
 use pp_desk::{Desk, Halt};
-use pp_model::{Compact, Config, Loaded, Verdicts};
+use pp_model::{Compact, Filtering, Loaded, Verdicts};
 use pp_pattern::{FramesRefused, judge, judge_load};
 use std::alloc::Global;
 
@@ -49,14 +49,14 @@ fn loaded<D: Desk>(
 pub fn verdicts<D: Desk>(
     alloc: Global,
     l: &Loaded,
-    config: &Config,
+    filtering: &Filtering,
     desk: &mut D,
 ) -> Result<Verdicts, Halt<Refused>>
-    ensures went { Went (D.world desk.old) (D.world desk.new) (verdicts D.finds l.now config.now)
+    ensures went { Went (D.world desk.old) (D.world desk.new) (verdicts D.finds l.now filtering.now)
         (settled result) }
-    ensures found { IfOk result (AreVerdictsOf D.finds config.now None l.now) }
+    ensures found { IfOk result (AreVerdictsOf D.finds filtering.now None l.now) }
 {
-    match judge(alloc, desk, config, None, l)? {
+    match judge(alloc, desk, filtering, None, l)? {
         Ok(verdicts) => Ok(verdicts),
         Err(refused) => Err(Halt::Refused(Refused::OfOption(refused))),
     }

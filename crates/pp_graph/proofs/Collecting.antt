@@ -6,7 +6,7 @@ use Rattle.std.proofs.lemmas.List.Sums.{length-filter, count_by-le-length}
 use Rattle.std.proofs.lemmas.List.FromFn.{length-range_with_len}
 use Rattle.std.proofs.lemmas.List.{map-append, append-nil, length-append, length_push}
 use Rattle.std.proofs.lemmas.List.Elements.{filter-append, All-push}
-use Rattle.pp_model.specs.declared.config.Sort.{Sort}
+use Rattle.pp_model.specs.declared.presentation.Sort.{Sort}
 use Rattle.pp_model.specs.declared.profile.Profile.{Profile}
 use Rattle.pp_grain.specs.declared.key.Key.{Key}
 use Rattle.pp_grain.specs.Keys.{key_written}

@@ -13,7 +13,7 @@ use Rattle.std.proofs.lemmas.List.Filters.{sum_by-filter_both}
 use Rattle.std.proofs.lemmas.List.Sorted.{sum_by-IsPermutation}
 use Rattle.std.proofs.lemmas.List.Sums.{sum_by-take-le, sum_by-cons}
 use Rattle.pp_model.specs.declared.config.Config.{Config}
-use Rattle.pp_model.specs.declared.config.Sort.{Sort}
+use Rattle.pp_model.specs.declared.presentation.Sort.{Sort}
 use Rattle.pp_model.specs.declared.loaded.Loaded.{Loaded}
 use Rattle.pp_model.specs.declared.profile.Profile.{Profile}
 use Rattle.pp_model.specs.declared.verdicts.Verdicts.{Verdicts}
@@ -116,27 +116,27 @@ module _ (p : Profile) (sort : Sort) (sums : Sums) (fits : FitSums sums) (total 
   )
 
 module _ (l : Loaded) (v : Verdicts) (config : Config) (column : Option ℕ) (limit : ℕ) (c : Counted) (rows : List Row) (light : ℕ)
-    (counted : IsCountedOf l v config column c) (ranked : AreRanked l.profile config.sort c.sums c.total config.nodefraction.billionths rows light) where
+    (counted : IsCountedOf l v config column c) (ranked : AreRanked l.profile config.presentation.sort c.sums c.total config.presentation.nodefraction.billionths rows light) where
   pub ranked_of : (t : Ranked) → t.order ≡ map (λ (r : Row). r.number) (shown_keys limit rows) → t.shown_flat ≡ int_sum (map (sum_of_name c.sums.flat) t.order)
       → t.dropped_nodes ≡ light → t.candidates ≡ length rows → IsRankedOf l v config column limit c t
   ranked_of t order flats light_is_t rows_are = record {
-    below = subst (All (λ n. n < length c.sums.names)) (sym order) (numbers_below l.profile config.sort c.sums counted.fits c.total config.nodefraction.billionths rows light limit ranked);
-    once = subst (AllPairs (λ a b. a ≢ b)) (sym order) (numbers_apart l.profile config.sort c.sums counted.fits c.total config.nodefraction.billionths rows light limit ranked);
-    small = subst (λ xs. sum_by (λ n. nat_abs (sum_of_name c.sums.flat n)) xs < 2 ^ 63) (sym order) (numbers_small l.profile config.sort c.sums counted.fits c.total config.nodefraction.billionths rows light limit ranked);
+    below = subst (All (λ n. n < length c.sums.names)) (sym order) (numbers_below l.profile config.presentation.sort c.sums counted.fits c.total config.presentation.nodefraction.billionths rows light limit ranked);
+    once = subst (AllPairs (λ a b. a ≢ b)) (sym order) (numbers_apart l.profile config.presentation.sort c.sums counted.fits c.total config.presentation.nodefraction.billionths rows light limit ranked);
+    small = subst (λ xs. sum_by (λ n. nat_abs (sum_of_name c.sums.flat n)) xs < 2 ^ 63) (sym order) (numbers_small l.profile config.presentation.sort c.sums counted.fits c.total config.presentation.nodefraction.billionths rows light limit ranked);
     keys = λ f h.
         ap (written_order l.profile c.sums.names) order
-        ∙ order_is l.profile (report_samples l.profile f config column) c.sums counted.fits (counted.sums_are f h) config.sort c.total config.nodefraction.billionths rows light ranked limit
-        ∙ ap (λ n. shown_keys limit (heavy_keys key_cmp config.sort n config.nodefraction.billionths (report_samples l.profile f config column))) (counted.total_is f h);
+        ∙ order_is l.profile (report_samples l.profile f config column) c.sums counted.fits (counted.sums_are f h) config.presentation.sort c.total config.presentation.nodefraction.billionths rows light ranked limit
+        ∙ ap (λ n. shown_keys limit (heavy_keys key_cmp config.presentation.sort n config.presentation.nodefraction.billionths (report_samples l.profile f config column))) (counted.total_is f h);
     shown_flat = λ f h.
         flats ∙ ap (λ xs. int_sum (map (sum_of_name c.sums.flat) xs)) order
-        ∙ ap int_sum (flats_are l.profile (report_samples l.profile f config column) c.sums counted.fits (counted.sums_are f h) config.sort c.total config.nodefraction.billionths rows light ranked limit)
-        ∙ ap (λ n. int_sum (map (flat key_cmp (report_samples l.profile f config column)) (shown_keys limit (heavy_keys key_cmp config.sort n config.nodefraction.billionths (report_samples l.profile f config column))))) (counted.total_is f h);
+        ∙ ap int_sum (flats_are l.profile (report_samples l.profile f config column) c.sums counted.fits (counted.sums_are f h) config.presentation.sort c.total config.presentation.nodefraction.billionths rows light ranked limit)
+        ∙ ap (λ n. int_sum (map (flat key_cmp (report_samples l.profile f config column)) (shown_keys limit (heavy_keys key_cmp config.presentation.sort n config.presentation.nodefraction.billionths (report_samples l.profile f config column))))) (counted.total_is f h);
     dropped_nodes = λ f h.
         light_is_t ∙ ranked.too_light
-        ∙ light_is l.profile (report_samples l.profile f config column) c.sums counted.fits (counted.sums_are f h) c.total config.nodefraction.billionths
-        ∙ ap (λ n. light_count key_cmp n config.nodefraction.billionths (report_samples l.profile f config column)) (counted.total_is f h);
+        ∙ light_is l.profile (report_samples l.profile f config column) c.sums counted.fits (counted.sums_are f h) c.total config.presentation.nodefraction.billionths
+        ∙ ap (λ n. light_count key_cmp n config.presentation.nodefraction.billionths (report_samples l.profile f config column)) (counted.total_is f h);
     candidates = λ f h.
         rows_are
-        ∙ candidates_are l.profile (report_samples l.profile f config column) c.sums counted.fits (counted.sums_are f h) config.sort c.total config.nodefraction.billionths rows light ranked
-        ∙ ap (λ n. length (heavy_keys key_cmp config.sort n config.nodefraction.billionths (report_samples l.profile f config column))) (counted.total_is f h);
+        ∙ candidates_are l.profile (report_samples l.profile f config column) c.sums counted.fits (counted.sums_are f h) config.presentation.sort c.total config.presentation.nodefraction.billionths rows light ranked
+        ∙ ap (λ n. length (heavy_keys key_cmp config.presentation.sort n config.presentation.nodefraction.billionths (report_samples l.profile f config column))) (counted.total_is f h);
   }

@@ -44,7 +44,14 @@ pub fn rank(
         IsCountedOf l.now v config.now column counted.now →
         IfOk result (IsRankedOf l.now v config.now column limit counted.now) }
 {
-    rank_by(alloc, l, counted, config.sort, config.nodefraction, limit)
+    rank_by(
+        alloc,
+        l,
+        counted,
+        config.presentation.sort,
+        config.presentation.nodefraction,
+        limit,
+    )
 }
 
 /// Ranks all keys, however light, and keeps the first `limit` of them, all for 0. Report order is that of `rank`.
@@ -62,7 +69,7 @@ pub fn rank_all(
         IfOk result (IsWholeRanking l.now v config.now column limit counted.now) }
 {
     let nothing = Fraction { billionths: 0 };
-    rank_by(alloc, l, counted, config.sort, nothing, limit)
+    rank_by(alloc, l, counted, config.presentation.sort, nothing, limit)
 }
 
 // The ranking of each configuration with this order and this fraction.
@@ -76,8 +83,9 @@ fn rank_by(
 ) -> Result<Ranked, Memory>
     requires fits { FitSums counted.now.sums }
     requires keys { All (IsKeyOf l.now.profile) counted.now.sums.names }
-    ensures { (v : Verdicts) (config : Config) (column : Option ℕ) → config.sort ≡ sort →
-        config.nodefraction.billionths ≡ least.billionths →
+    ensures { (v : Verdicts) (config : Config) (column : Option ℕ) →
+        config.presentation.sort ≡ sort →
+        config.presentation.nodefraction.billionths ≡ least.billionths →
         IsCountedOf l.now v config column counted.now →
         IfOk result (IsRankedOf l.now v config column limit counted.now) }
 {

@@ -40,7 +40,12 @@ pub fn trim<R: Threads + Sync, G: Gate>(
     let edges = edges(rt, alloc, survey, &keep, gate)?;
     let count = edges.len() as u64;
     let mut graph = Graph::make(alloc, &counted.sums, edges)?;
-    let dropped_edges = cut_light(&mut graph, count, counted.total, config.edgefraction);
+    let dropped_edges = cut_light(
+        &mut graph,
+        count,
+        counted.total,
+        config.presentation.edgefraction,
+    );
     Ok(Trimmed {
         ranked,
         graph,

@@ -35,7 +35,7 @@ pub fn row_edges<R: Threads + Sync>(
     requires below { All (λ n. n < length survey.now.counted.now.sums.names) order.now }
     requires once { AllPairs (λ a b. a ≢ b) order.now }
     ensures { let s = survey.now in (f : Finders) →
-        HoldsFilters s.l.now s.v.now s.config.now f →
+        HoldsFilters s.l.now s.v.now s.config.now.filtering f →
         IfOk result (AreRowEdges (report_samples s.l.now.profile f s.config.now s.column)
         (written_order s.l.now.profile s.counted.now.sums.names order.now)) }
 {

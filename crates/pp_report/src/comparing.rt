@@ -24,13 +24,13 @@ pub fn compare<R: Threads + Sync, G: Gate>(
     subject: &Subject<'_, '_>,
 ) -> Result<Text, Memory>
     ensures { let s = subject.now.survey in (f : Finders) →
-        HoldsFilters s.l.now s.v.now s.config.now f →
+        HoldsFilters s.l.now s.v.now s.config.now.filtering f →
         IfOk result (λ text. text ≡ compare_text s.l.now.profile f s.config.now s.column
-        (node_limit s.config.now.nodecount 0) (facts subject.now.head.now)) }
+        (node_limit s.config.now.presentation.nodecount 0) (facts subject.now.head.now)) }
 {
     let survey = &subject.survey;
     let (alloc, config) = (with.alloc, survey.config);
-    let limit = limit_of(config, 0);
+    let limit = limit_of(&config.presentation, 0);
     let ranked = rank(alloc, survey.l, survey.counted, config, limit)?;
     let base = base_sums(with.rt, alloc, survey, with.gate)?;
     let mut text = Text::new(alloc);
@@ -44,13 +44,13 @@ pub fn changes<R: Threads + Sync, G: Gate>(
     subject: &Subject<'_, '_>,
 ) -> Result<Text, Memory>
     ensures { let s = subject.now.survey in (f : Finders) →
-        HoldsFilters s.l.now s.v.now s.config.now f →
+        HoldsFilters s.l.now s.v.now s.config.now.filtering f →
         IfOk result (λ text. text ≡ changes_text s.l.now.profile f s.config.now s.column
-        (node_limit s.config.now.nodecount 0) (unit_text s.l.now.profile s.column)) }
+        (node_limit s.config.now.presentation.nodecount 0) (unit_text s.l.now.profile s.column)) }
 {
     let survey = &subject.survey;
     let (alloc, config) = (with.alloc, survey.config);
-    let limit = limit_of(config, 0);
+    let limit = limit_of(&config.presentation, 0);
     let ranked = rank_all(alloc, survey.l, survey.counted, config, limit)?;
     let base = base_sums(with.rt, alloc, survey, with.gate)?;
     let unit = unit_text(survey.l.profile.get(), survey.column);

@@ -91,10 +91,10 @@ fn has_sums_under(alloc: Global, l: &Loaded, config: &Config, sums: &Sums) -> Re
     requires standard { config.now ≡ defaults }
     requires pieces { 1024 < length l.now.profile.sample }
 {
-    let Ok(column) = column_of(l, config) else {
+    let Ok(column) = column_of(l, &config.presentation) else {
         return Err("no column".into());
     };
-    let table = key_table(alloc, HashKeys::fixed(), l, config)?;
+    let table = key_table(alloc, HashKeys::fixed(), l, config.grouping)?;
     let verdicts = no_verdicts(alloc);
     let part = joined_part(alloc, l, &verdicts, config, column, &table);
     mem::drop(verdicts);
@@ -132,8 +132,8 @@ fn joined_part(
     column: Option<u32>,
     table: &KeyTable,
 ) -> Result<Part, Memory>
-    requires can { CanCount l.now.profile v.now config.now column }
-    requires table { IsKeyTable l.now.profile config.now table.now }
+    requires can { CanCount l.now.profile v.now config.now.filtering column }
+    requires table { IsKeyTable l.now.profile config.now.grouping table.now }
     requires pieces { 1024 < length l.now.profile.sample }
 {
     let mut parts = List::new(alloc);

@@ -82,7 +82,12 @@ fn count_sample(
         counts.new.keys) }
 {
     show_tags_into(survey.l, survey.v, s, shown)?;
-    let value = selected(survey.l, s, survey.column, survey.config.divide_by);
+    let value = selected(
+        survey.l,
+        s,
+        survey.column,
+        survey.config.presentation.divide_by,
+    );
     count_labels(
         alloc,
         survey.l.profile.get(),

@@ -51,9 +51,9 @@ pub fn write_tags(
     head: &Head,
     out: &mut Text,
 ) -> Result<(), Memory>
-    requires can { CanCount l.now.profile v.now config.now column }
+    requires can { CanCount l.now.profile v.now config.now.filtering column }
     requires counted { IsCountedOf l.now v.now config.now column c.now }
-    ensures ok { (f : Finders) → HoldsFilters l.now v.now config.now f →
+    ensures ok { (f : Finders) → HoldsFilters l.now v.now config.now.filtering f →
         OnOk result (out.new ≡ out.old
         ++ tags_text l.now.profile f config.now column (facts head.now)) }
     ensures err { OnErr result (out.new ≡ out.old) }
@@ -76,7 +76,7 @@ pub fn write_tags_of(
     out: &mut Text,
 ) -> Result<(), Memory>
     ensures ok { (f : Finders) →
-        HoldsFilters survey.now.l.now survey.now.v.now survey.now.config.now f →
+        HoldsFilters survey.now.l.now survey.now.v.now survey.now.config.now.filtering f →
         OnOk result (out.new ≡ out.old ++ tags_text survey.now.l.now.profile f
         survey.now.config.now survey.now.column (facts head.now)) }
     ensures err { OnErr result (out.new ≡ out.old) }

@@ -36,9 +36,9 @@ pub fn write_traces<R: Threads + Sync, G: Gate>(
     gate: &G,
     out: &mut Text,
 ) -> Result<(), Memory>
-    requires can { CanCount l.now.profile v.now config.now column }
+    requires can { CanCount l.now.profile v.now config.now.filtering column }
     requires counted { IsCountedOf l.now v.now config.now column c.now }
-    ensures ok { (f : Finders) → HoldsFilters l.now v.now config.now f →
+    ensures ok { (f : Finders) → HoldsFilters l.now v.now config.now.filtering f →
         OnOk result (out.new ≡ out.old
         ++ traces_text l.now.profile f config.now column (facts head.now)) }
     ensures err { OnErr result (out.new ≡ out.old) }
@@ -63,7 +63,7 @@ pub fn write_traces_of<R: Threads + Sync, G: Gate>(
     out: &mut Text,
 ) -> Result<(), Memory>
     ensures ok { (f : Finders) →
-        HoldsFilters survey.now.l.now survey.now.v.now survey.now.config.now f →
+        HoldsFilters survey.now.l.now survey.now.v.now survey.now.config.now.filtering f →
         OnOk result (out.new ≡ out.old ++ traces_text survey.now.l.now.profile f
         survey.now.config.now survey.now.column (facts head.now)) }
     ensures err { OnErr result (out.new ≡ out.old) }
@@ -85,7 +85,7 @@ fn put_samples<'x, R: Threads + Sync, G: Gate>(
     lines: &mut Text,
 ) -> Result<(), Memory>
     ensures { (f : Finders) →
-        HoldsFilters survey.now.l.now survey.now.v.now survey.now.config.now f →
+        HoldsFilters survey.now.l.now survey.now.v.now survey.now.config.now.filtering f →
         IfOk result (λ _. lines.new ≡ lines.old
         ++ flat_map (trace_of survey.now.l.now.profile f survey.now.config.now survey.now.column
         (shown unit.now)) survey.now.l.now.profile.sample) }
@@ -95,6 +95,7 @@ fn put_samples<'x, R: Threads + Sync, G: Gate>(
         l: survey.l,
         v: survey.v,
         config: survey.config,
+        grouping: survey.config.grouping,
         filters: survey.filters(),
         column: survey.column,
         table: survey.table(),

@@ -2,8 +2,8 @@
 use Rattle.std.proofs.Common.{◌≡◌, ℕ, ℤ, pos, Bool, true, not, List, ◌++◌, length, map, Option, refl, ap, ◌∙◌}
 use Rattle.std.specs.List.{filter}
 use Rattle.pp_model.specs.declared.config.Config.{Config}
-use Rattle.pp_model.specs.declared.config.Sort.{Sort}
-use Rattle.pp_model.specs.declared.config.Sort.TheVariants as sorts
+use Rattle.pp_model.specs.declared.presentation.Sort.{Sort}
+use Rattle.pp_model.specs.declared.presentation.Sort.TheVariants as sorts
 use Rattle.pp_model.specs.declared.profile.Profile.{Profile}
 use Rattle.pp_model.specs.Finders.{Finders}
 use Rattle.pp_model.specs.FrameTexts.{Written}
@@ -41,18 +41,18 @@ module _ (p : Profile) (f : Finders) (config : Config) (column : Option ℕ) whe
   -- the keys that may be shown
   candidates_are : candidate_keys p f config column ≡ layouts.candidates g config
   candidates_are =
-      relisted (report_total samples config.sort) (report_same samples config.sort) (layouts.is_heavy_key g config) (all_keys samples)
-      ∙ ap (λ order. each_once order (filter (layouts.is_heavy_key g config) g.keys)) (order_is config.sort)
+      relisted (report_total samples config.presentation.sort) (report_same samples config.presentation.sort) (layouts.is_heavy_key g config) (all_keys samples)
+      ∙ ap (λ order. each_once order (filter (layouts.is_heavy_key g config) g.keys)) (order_is config.presentation.sort)
 
   -- how many are not
   light_are : light_nodes p f config column ≡ layouts.light_keys g config
   light_are = counted_once (λ k. not (layouts.is_heavy_key g config k)) (all_keys samples)
 
   -- all keys, in report order
-  all_are : all_report_keys p f config column ≡ each_once (layouts.order_by g config.sort) g.keys
+  all_are : all_report_keys p f config column ≡ each_once (layouts.order_by g config.presentation.sort) g.keys
   all_are =
-      relisted_all (report_total samples config.sort) (report_same samples config.sort) (all_keys samples)
-      ∙ ap (λ order. each_once order g.keys) (order_is config.sort)
+      relisted_all (report_total samples config.presentation.sort) (report_same samples config.presentation.sort) (all_keys samples)
+      ∙ ap (λ order. each_once order g.keys) (order_is config.presentation.sort)
 
   -- neighbours of a key, whichever pairs are shown
   abbrev Lists : Type 0
@@ -91,7 +91,7 @@ module _ (p : Profile) (f : Finders) (config : Config) (column : Option ℕ) whe
       facts_text h
       ++ tree.summary_text h (int_sum (map g.flat_of shown)) (light_are i) (layouts.light_pairs g config shown) (length shown) (length all)
       ++ table_heading
-      ++ tree_nodes_text h.unit h.total (pos 0) (map (node_by (lists_are i) (λ k. has key_cmp k shown) config.edgefraction.billionths) shown)
+      ++ tree_nodes_text h.unit h.total (pos 0) (map (node_by (lists_are i) (λ k. has key_cmp k shown) config.presentation.edgefraction.billionths) shown)
 
   -- The text of peek.
   pub peek_is : (h : Facts) → peek_text p f config column h ≡ layouts.peek_layout g config f.own h

@@ -13,7 +13,6 @@ use Rattle.pp_desk.specs.Script.{Script, Give, ◌>>=◌}
 use Rattle.pp_desk.specs.Went.{Went, IsOnWay}
 use Rattle.pp_desk.proofs.Looping.{arrives, moves_on}
 use Rattle.pp_desk.proofs.Going.{gives, stops_first, wants, goes_second, goes_give}
-use Rattle.pp_model.specs.declared.config.Config.{Config}
 use Rattle.pp_model.specs.FirstSight.{seen_after, seen_with}
 use Rattle.pp_model.specs.FrameTexts.{Written}
 use Rattle.pp_units.specs.Head.{Facts}
@@ -27,59 +26,60 @@ use Rattle.pp_source.specs.Ledgers.{line_texts, lines_texts}
 use Rattle.pp_source.specs.Listing.{list_lines, read_sources, source_of}
 use Rattle.pp_source.specs.SourceText.{lines_text}
 use Rattle.pp_source.proofs.FileLemmas.{told}
+use Rattle.pp_model.specs.declared.environment.Environment.{Environment}
 
-module _ (config : Config) (files : List (Bor (List ℕ))) (i : ℕ) (sources : List Source) (whole : Script (List Source)) (a b : World)
-    (on_way : IsOnWay a b whole (read_sources config sources (map told (drop i files)))) where
+module _ (environment : Environment) (files : List (Bor (List ℕ))) (i : ℕ) (sources : List Source) (whole : Script (List Source)) (a b : World)
+    (on_way : IsOnWay a b whole (read_sources environment sources (map told (drop i files)))) where
   -- the files from the next one on
-  read_next : (d : Bor (List ℕ)) → i < length files → IsOnWay a b whole (source_of config (get_or files i d).now >>= (λ source. read_sources config (sources ++ source ∷ []) (map told (drop (i + 1) files))))
+  read_next : (d : Bor (List ℕ)) → i < length files → IsOnWay a b whole (source_of environment (get_or files i d).now >>= (λ source. read_sources environment (sources ++ source ∷ []) (map told (drop (i + 1) files))))
   unfolding read_sources
-  read_next d within = subst (IsOnWay a b whole) (at_drop_more (λ fs. read_sources config sources (map told fs)) files i d within) on_way
+  read_next d within = subst (IsOnWay a b whole) (at_drop_more (λ fs. read_sources environment sources (map told fs)) files i d within) on_way
 
   -- one more is read
-  pub read_goes : (c : World) (d : Bor (List ℕ)) (source : Source) (new : List Source) → i < length files → Went b c (source_of config (get_or files i d).now) (Ok source)
-      → new ≡ sources ++ source ∷ [] → IsOnWay a c whole (read_sources config new (map told (drop (i + 1) files)))
+  pub read_goes : (c : World) (d : Bor (List ℕ)) (source : Source) (new : List Source) → i < length files → Went b c (source_of environment (get_or files i d).now) (Ok source)
+      → new ≡ sources ++ source ∷ [] → IsOnWay a c whole (read_sources environment new (map told (drop (i + 1) files)))
   read_goes c d source new within went added =
-      subst (λ ss. IsOnWay a c whole (read_sources config ss (map told (drop (i + 1) files)))) (sym added)
-      (moves_on a b c whole (source_of config (get_or files i d).now) _ source (read_next d within) went)
+      subst (λ ss. IsOnWay a c whole (read_sources environment ss (map told (drop (i + 1) files)))) (sym added)
+      (moves_on a b c whole (source_of environment (get_or files i d).now) _ source (read_next d within) went)
 
   -- memory was wanting after it was read
-  pub read_wants : (c : World) (d : Bor (List ℕ)) (source : Source) → i < length files → Went b c (source_of config (get_or files i d).now) (Ok source) → Went a c whole (Err stops.Memory)
+  pub read_wants : (c : World) (d : Bor (List ℕ)) (source : Source) → i < length files → Went b c (source_of environment (get_or files i d).now) (Ok source) → Went a c whole (Err stops.Memory)
   read_wants c d source within went =
-      arrives a c c whole _ (Err stops.Memory) (moves_on a b c whole (source_of config (get_or files i d).now) _ source (read_next d within) went) (wants c _)
+      arrives a c c whole _ (Err stops.Memory) (moves_on a b c whole (source_of environment (get_or files i d).now) _ source (read_next d within) went) (wants c _)
 
   -- its read was stopped
-  pub read_stops : (c : World) (d : Bor (List ℕ)) (stop : Stop) → i < length files → Went b c (source_of config (get_or files i d).now) (Err stop) → Went a c whole (Err stop)
-  read_stops c d stop within went = arrives a b c whole _ (Err stop) (read_next d within) (stops_first b c (source_of config (get_or files i d).now) _ stop went)
+  pub read_stops : (c : World) (d : Bor (List ℕ)) (stop : Stop) → i < length files → Went b c (source_of environment (get_or files i d).now) (Err stop) → Went a c whole (Err stop)
+  read_stops c d stop within went = arrives a b c whole _ (Err stop) (read_next d within) (stops_first b c (source_of environment (get_or files i d).now) _ stop went)
 
   -- no file is left
   pub read_ends : length files ≤ i → Went a b whole (Ok sources)
   unfolding read_sources
   read_ends past =
-      arrives a b b whole _ (Ok sources) (subst (IsOnWay a b whole) (at_drop_all (λ fs. read_sources config sources (map told fs)) files i past) on_way) (gives b sources)
+      arrives a b b whole _ (Ok sources) (subst (IsOnWay a b whole) (at_drop_all (λ fs. read_sources environment sources (map told fs)) files i past) on_way) (gives b sources)
 
 -- The report of lines, whose files were told so.
-module _ (config : Config) (samples : List (Seen Written)) (h : Facts) (lines : List Written) (lent files : List (Bor (List ℕ))) (same : lent ≡ files) (are : map told files ≡ files_of_lines lines) (a b : World) where
+module _ (environment : Environment) (samples : List (Seen Written)) (h : Facts) (lines : List Written) (lent files : List (Bor (List ℕ))) (same : lent ≡ files) (are : map told files ≡ files_of_lines lines) (a b : World) where
   lent_are : map told lent ≡ files_of_lines lines
   lent_are = ap (map told) same ∙ are
 
   -- it is whole
-  pub lines_go : (sources : List Source) (text : List ℕ) → Went a b (read_sources config [] (map told lent)) (Ok sources)
-      → text ≡ lines_text samples h (source_at (map told files) sources) lines → Went a b (list_lines config samples h lines) (Ok text)
+  pub lines_go : (sources : List Source) (text : List ℕ) → Went a b (read_sources environment [] (map told lent)) (Ok sources)
+      → text ≡ lines_text samples h (source_at (map told files) sources) lines → Went a b (list_lines environment samples h lines) (Ok text)
   unfolding list_lines
   lines_go sources text went is =
-      goes_give a b (read_sources config [] (files_of_lines lines)) _ sources text (subst (λ fs. Went a b (read_sources config [] fs) (Ok sources)) lent_are went)
+      goes_give a b (read_sources environment [] (files_of_lines lines)) _ sources text (subst (λ fs. Went a b (read_sources environment [] fs) (Ok sources)) lent_are went)
       (ap Give (sym (is ∙ ap (λ fs. lines_text samples h (source_at fs sources) lines) are)))
 
   -- memory was wanting after the reads
-  pub lines_want : (sources : List Source) → Went a b (read_sources config [] (map told lent)) (Ok sources) → Went a b (list_lines config samples h lines) (Err stops.Memory)
+  pub lines_want : (sources : List Source) → Went a b (read_sources environment [] (map told lent)) (Ok sources) → Went a b (list_lines environment samples h lines) (Err stops.Memory)
   unfolding list_lines
   lines_want sources went =
-      goes_second a b b (read_sources config [] (files_of_lines lines)) _ sources (Err stops.Memory) (subst (λ fs. Went a b (read_sources config [] fs) (Ok sources)) lent_are went) (wants b _)
+      goes_second a b b (read_sources environment [] (files_of_lines lines)) _ sources (Err stops.Memory) (subst (λ fs. Went a b (read_sources environment [] fs) (Ok sources)) lent_are went) (wants b _)
 
   -- a read was stopped
-  pub lines_stop : (stop : Stop) → Went a b (read_sources config [] (map told lent)) (Err stop) → Went a b (list_lines config samples h lines) (Err stop)
+  pub lines_stop : (stop : Stop) → Went a b (read_sources environment [] (map told lent)) (Err stop) → Went a b (list_lines environment samples h lines) (Err stop)
   unfolding list_lines
-  lines_stop stop went = stops_first a b (read_sources config [] (files_of_lines lines)) _ stop (subst (λ fs. Went a b (read_sources config [] fs) (Err stop)) lent_are went)
+  lines_stop stop went = stops_first a b (read_sources environment [] (files_of_lines lines)) _ stop (subst (λ fs. Went a b (read_sources environment [] fs) (Err stop)) lent_are went)
 
 -- the files of one line more
 files_add : (seen : List (List ℕ)) (lines : List FoundLine) (line : FoundLine)

@@ -5,6 +5,7 @@ use Rattle.pp_desk.specs.declared.file_content.FileContent.TheVariants as conten
 use Rattle.pp_desk.specs.Script.{Script, Give, ◌>>=◌, read_file}
 use Rattle.pp_model.specs.declared.config.Config.{Config}
 use Rattle.pp_model.specs.declared.profile.Profile.{Profile}
+use Rattle.pp_model.specs.declared.environment.Environment.{Environment}
 use Rattle.pp_model.specs.Finders.{Finders}
 use Rattle.pp_model.specs.FrameTexts.{Written}
 use Rattle.pp_units.specs.Head.{Facts}
@@ -39,29 +40,30 @@ first_present (path ∷ paths) = do
   or_next (first_present paths) (source_found content)
 
 -- Looks for the source of a file text; nothing is read for an empty one.
-unfoldable pub source_of : Config → List ℕ → Script Source
-source_of config [] = Give NoName
-source_of config (b ∷ file) =
-    first_present (paths_to_try config.source_path config.trim_path (b ∷ file))
+unfoldable pub source_of : Environment → List ℕ → Script Source
+source_of environment [] = Give NoName
+source_of environment (b ∷ file) =
+    first_present (paths_to_try environment.source_path environment.trim_path (b ∷ file))
 
 -- Reads the sources of these files, one after the other, behind those that were read.
-unfoldable pub read_sources : Config → List Source → List (List ℕ) → Script (List Source)
-read_sources config sources [] = Give sources
-read_sources config sources (file ∷ files) = do
-  source ← source_of config file
-  read_sources config (sources ++ source ∷ []) files
+unfoldable pub read_sources : Environment → List Source → List (List ℕ) → Script (List Source)
+read_sources environment sources [] = Give sources
+read_sources environment sources (file ∷ files) = do
+  source ← source_of environment file
+  read_sources environment (sources ++ source ∷ []) files
 
 -- The report of these lines. The source of each of their files is read once.
-unfoldable pub list_lines : Config → List (Seen Written) → Facts → List Written → Script (List ℕ)
-list_lines config samples h lines = do
-  sources ← read_sources config [] (files_of_lines lines)
+unfoldable pub list_lines : Environment → List (Seen Written) → Facts → List Written
+    → Script (List ℕ)
+list_lines environment samples h lines = do
+  sources ← read_sources environment [] (files_of_lines lines)
   Give (lines_text samples h (source_at (files_of_lines lines) sources) lines)
 
 -- the report, where a function is found
-unfoldable pub list_found : Config → List (Seen Written) → Facts → List Written
+unfoldable pub list_found : Environment → List (Seen Written) → Facts → List Written
     → Script (Option (List ℕ))
-list_found config samples h lines = do
-  text ← list_lines config samples h lines
+list_found environment samples h lines = do
+  text ← list_lines environment samples h lines
   Give (Some text)
 
 -- The list report: its text, after the sources of the lines that the own pattern finds were read. Where
@@ -69,7 +71,7 @@ list_found config samples h lines = do
 abbrev pub list_report : Profile → Finders → Config → Option ℕ → Facts → Script (Option (List ℕ))
 list_report p f config column h =
     if has_own_match p f config column
-    then list_found config (report_frames p f config column) h
+    then list_found config.environment (report_frames p f config column) h
     (found_lines f (report_frames p f config column))
     else Give None
 

@@ -7,7 +7,7 @@ use crate::paths::paths_to_try;
 use crate::source::{SOURCE_LIMIT, Source};
 use pp_base::Text;
 use pp_desk::{Desk, FileContent, Stop};
-use pp_model::Config;
+use pp_model::Environment;
 use std::alloc::Global;
 
 /// Reads the source of the file from the first of its paths at which there is a file. Nothing is read for an empty
@@ -15,17 +15,18 @@ use std::alloc::Global;
 #[tactic(auto, using(pp_desk::proofs::Going::going), unfolding(crate::specs::Listing::source_of))]
 pub fn source_of<D: Desk>(
     alloc: Global,
-    config: &Config,
+    environment: &Environment,
     file: &[u8],
     desk: &mut D,
 ) -> Result<Source, Stop>
-    ensures { Went (D.world desk.old) (D.world desk.new) (source_of config.now file.now) result }
+    ensures { Went (D.world desk.old) (D.world desk.new)
+        (source_of environment.now file.now) result }
 {
     if file.is_empty() {
         return Ok(Source::NoName);
     }
-    let source_path = config.source_path.as_slice();
-    let paths = paths_to_try(alloc, source_path, config.trim_path.as_slice(), file)?;
+    let source_path = environment.source_path.as_slice();
+    let paths = paths_to_try(alloc, source_path, environment.trim_path.as_slice(), file)?;
     first_present(paths.as_slice(), desk)
 }
 

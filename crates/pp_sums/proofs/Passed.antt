@@ -42,7 +42,7 @@ types_of p ps = length-map (contents p ps).header.types (written_type (contents 
 
 -- The profile merged alone, where it is plain.
 module _ (q : Profile) (plain : IsPlain q) (starts : AllByRecursion (λ m. m.start < 2 ^ 64) q.mapping)
-    (f : Finders) (config : Config) (column : ℕ) (within : column < length q.sample_type) (divisor : config.divide_by ≡ 1) (none : HasNoNegative column q) where
+    (f : Finders) (config : Config) (column : ℕ) (within : column < length q.sample_type) (divisor : config.presentation.divide_by ≡ 1) (none : HasNoNegative column q) where
   abbrev alone : Profile
   alone = merged q []
 
@@ -67,8 +67,8 @@ module _ (q : Profile) (plain : IsPlain q) (starts : AllByRecursion (λ m. m.sta
       ∙ (λ i. total_by (nat_abs (asked_alone (counts_in_base f config column divisor) i)) (nat_abs (asked_alone (counts_in f config column divisor) i)))
       ∙ sym (total_said f config column divisor q plain none)
 
-module _ (keep : Kept) (p : Profile) (f : Finders) (config : Config) (column : ℕ) (loaded : IsLoaded p) (nothing : LooksAtNothing keep p f config)
-    (within : column < length p.sample_type) (divisor : config.divide_by ≡ 1) where
+module _ (keep : Kept) (p : Profile) (f : Finders) (config : Config) (column : ℕ) (loaded : IsLoaded p) (nothing : LooksAtNothing keep p f config.grouping)
+    (within : column < length p.sample_type) (divisor : config.presentation.divide_by ≡ 1) where
   abbrev kept : Profile
   kept = aggregated keep p
 

@@ -4,8 +4,8 @@ use Rattle.std.specs.List.{filter, list_any}
 use Rattle.std.specs.Ordering.{eq_by_cmp, then_cmp}
 use Rattle.std.proofs.lemmas.Map.Views.{any-filter_same}
 use Rattle.pp_model.specs.declared.config.Config.{Config}
-use Rattle.pp_model.specs.declared.config.Sort.{Sort}
-use Rattle.pp_model.specs.declared.config.Sort.TheVariants as sorts
+use Rattle.pp_model.specs.declared.presentation.Sort.{Sort}
+use Rattle.pp_model.specs.declared.presentation.Sort.TheVariants as sorts
 use Rattle.pp_model.specs.declared.profile.Profile.{Profile}
 use Rattle.pp_model.specs.Finders.{Finders}
 use Rattle.pp_model.specs.FrameTexts.{Written}
@@ -85,7 +85,7 @@ module _ (p q : Profile) (f : Finders) (config : Config) (column : Option ℕ)
           occur = occur;
           edge_occurs = λ kept a b. finds (has_edge key_cmp kept a b);
           total = totals;
-          rows = λ limit. ap (shown_keys limit) (heavy_same config.sort (report_samples p f config column) (report_samples q f config column) flats cums occur
-              (total_of p f config column) (total_of q f config column) config.nodefraction.billionths totals);
-          all_rows = all_same config.sort (report_samples p f config column) (report_samples q f config column) flats cums occur;
+          rows = λ limit. ap (shown_keys limit) (heavy_same config.presentation.sort (report_samples p f config column) (report_samples q f config column) flats cums occur
+              (total_of p f config column) (total_of q f config column) config.presentation.nodefraction.billionths totals);
+          all_rows = all_same config.presentation.sort (report_samples p f config column) (report_samples q f config column) flats cums occur;
         }

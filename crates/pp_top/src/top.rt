@@ -31,7 +31,8 @@ pub fn write_top(
     requires { CanShow l.now.profile c.now.sums t.now.order }
     ensures ok { (v : Verdicts) (config : Config) (column : Option ℕ) (limit : ℕ) (f : Finders) →
         IsCountedOf l.now v config column c.now →
-        IsRankedOf l.now v config column limit c.now t.now → HoldsFilters l.now v config f →
+        IsRankedOf l.now v config column limit c.now t.now →
+        HoldsFilters l.now v config.filtering f →
         OnOk result (out.new
         ≡ out.old ++ top_text l.now.profile f config column limit (facts head.now)) }
     ensures err { OnErr result (out.new ≡ out.old) }

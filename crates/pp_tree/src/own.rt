@@ -46,7 +46,7 @@ pub fn found_by_frames(
 ) -> Result<List<bool>, Memory>
     requires { survey.now.v.now.own ≡ Some own.now }
     ensures { (f : Finders) →
-        HoldsFilters survey.now.l.now survey.now.v.now survey.now.config.now f →
+        HoldsFilters survey.now.l.now survey.now.v.now survey.now.config.now.filtering f →
         IfOk result (λ found. found ≡ map (λ key. is_found_key survey.now.l.now.profile f
         survey.now.config.now survey.now.column (key_written survey.now.l.now.profile key))
         survey.now.counted.now.sums.names) }
@@ -118,7 +118,13 @@ fn add_sample(
     let Some(sample) = samples.get(number as usize) else {
         return Ok(());
     };
-    if selected(asked.l, sample, asked.column, asked.config.divide_by) == 0 {
+    if selected(
+        asked.l,
+        sample,
+        asked.column,
+        asked.config.presentation.divide_by,
+    ) == 0
+    {
         return Ok(());
     }
     if !filter_into(asked.l, asked.v, tables, sample, stack)? {
@@ -139,7 +145,7 @@ fn add_stack(
     ensures found { (find : Finder) → AreVerdicts asked.now.l.now.profile asked.now.own.now find →
         IfOk result (λ _. (k : Written) → holds_key asked.now.l.now.profile keys.new.keys k
         ≡ (holds_key asked.now.l.now.profile keys.old.keys k
-        || has_own_frame asked.now.l.now.profile asked.now.config.now find k stack.now)) }
+        || has_own_frame asked.now.l.now.profile asked.now.config.now.grouping find k stack.now)) }
 {
     for place in 0..stack.len() {
         add_frame(asked, stack, place, keys)?;
@@ -162,17 +168,23 @@ fn add_frame(
     ensures found { (find : Finder) → AreVerdicts asked.now.l.now.profile asked.now.own.now find →
         IfOk result (λ _. (k : Written) → holds_key asked.now.l.now.profile keys.new.keys k
         ≡ (holds_key asked.now.l.now.profile keys.old.keys k
-        || is_own_at asked.now.l.now.profile asked.now.config.now find k stack.now place)) }
+        || is_own_at asked.now.l.now.profile asked.now.config.now.grouping find k stack.now
+        place)) }
 {
     let config = asked.config;
     let frame = &stack.as_slice()[place];
-    if !counted(stack, place, config.noinlines) {
+    if !counted(stack, place, config.grouping.noinlines) {
         return Ok(());
     }
     if !is_own(asked, frame) {
         return Ok(());
     }
-    let key = key_of(asked.l, frame, config.grain, config.showcolumns);
+    let key = key_of(
+        asked.l,
+        frame,
+        config.grouping.grain,
+        config.grouping.showcolumns,
+    );
     keys.insert(key)?;
     Ok(())
 }

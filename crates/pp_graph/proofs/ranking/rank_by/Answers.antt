@@ -1,6 +1,6 @@
 use Rattle.std.proofs.Common.{◌≡◌, ◌<◌, ◌^◌, length, nat_abs, SFits, w64, to_z, of_z, rules, refl, sym, ap, subst, ◌∙◌, map, All, List, ℕ, sum_by}
 use Rattle.std.proofs.lemmas.Int.{to_z-of_z}
-use Rattle.pp_model.specs.declared.config.Sort.{Sort}
+use Rattle.pp_model.specs.declared.presentation.Sort.{Sort}
 use Rattle.pp_model.specs.declared.profile.Profile.{Profile}
 use Rattle.pp_graph.specs.declared.heavy.Row.{Row}
 use Rattle.pp_graph.specs.Ranks.{AreRanked, sum_of_name}
@@ -30,7 +30,7 @@ returns c = λ v config column sort_is least_is counted.
     let ranked : AreRanked c.args.l.now.profile c.args.sort c.args.counted.now.sums c.args.counted.now.total c.args.least.billionths c.in_ok-heavy.heavy.rows.items c.in_ok-heavy.heavy.light =
     subst (λ (p : Profile). AreRanked p c.args.sort c.args.counted.now.sums c.args.counted.now.total c.args.least.billionths c.in_ok-heavy.heavy.rows.items c.in_ok-heavy.heavy.light) c.get-p.ensures.same c.in_ok-heavy.ensures in
     ranked_of c.args.l.now v config column c.args.limit c.args.counted.now c.in_ok-heavy.heavy.rows.items c.in_ok-heavy.heavy.light counted
-    (subst (λ (s : Sort). AreRanked c.args.l.now.profile s c.args.counted.now.sums c.args.counted.now.total config.nodefraction.billionths c.in_ok-heavy.heavy.rows.items c.in_ok-heavy.heavy.light) (sym sort_is)
+    (subst (λ (s : Sort). AreRanked c.args.l.now.profile s c.args.counted.now.sums c.args.counted.now.total config.presentation.nodefraction.billionths c.in_ok-heavy.heavy.rows.items c.in_ok-heavy.heavy.light) (sym sort_is)
     (subst (λ n. AreRanked c.args.l.now.profile c.args.sort c.args.counted.now.sums c.args.counted.now.total n c.in_ok-heavy.heavy.rows.items c.in_ok-heavy.heavy.light) (sym least_is) ranked))
     _
     (c.in_ok-order.ensures ∙ ap (map (λ (r : Row). r.number)) (c.first_rows.ensures ∙ ap (shown_keys c.args.limit) c.deref.ensures.value))

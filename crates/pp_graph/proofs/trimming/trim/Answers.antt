@@ -25,5 +25,5 @@ returns g c =
     (c.in_ok-keep.ensures ∙ (λ i. kept_flags (c.len.ensures.len i) (c.as_slice.ensures i))) (c.in_ok-edges.ensures.edges f h))
     c.cut_light-dropped_edges.ensures.linked
     (nodes_same c.args.survey.now.counted.now.sums c.in_ok-graph.graph c.cut_light-dropped_edges.new.graph c.cut_light-dropped_edges.ensures.nodes c.in_ok-graph.ensures.nodes)
-    (c.cut_light-dropped_edges.ensures.live ∙ ap (filter (is_heavy_edge c.args.survey.now.counted.now.total c.args.survey.now.config.now.edgefraction.billionths)) c.in_ok-graph.ensures.live)
-    (c.cut_light-dropped_edges.ensures.cut ∙ ap (λ (es : List Edge). length (filter (is_light_edge c.args.survey.now.counted.now.total c.args.survey.now.config.now.edgefraction.billionths) es)) c.in_ok-graph.ensures.live)
+    (c.cut_light-dropped_edges.ensures.live ∙ ap (filter (is_heavy_edge c.args.survey.now.counted.now.total c.args.survey.now.config.now.presentation.edgefraction.billionths)) c.in_ok-graph.ensures.live)
+    (c.cut_light-dropped_edges.ensures.cut ∙ ap (λ (es : List Edge). length (filter (is_light_edge c.args.survey.now.counted.now.total c.args.survey.now.config.now.presentation.edgefraction.billionths) es)) c.in_ok-graph.ensures.live)

@@ -9,7 +9,7 @@ use Rattle.pp_report.proofs.preparing.counts_for.Goals as goal
 pub returns-in_err-verdicts-clause-went : goal.returns-in_err-verdicts-clause-went
 returns-in_err-verdicts-clause-went g c =
     let p = err_from_is_err_and c.from_residual.result c.from_residual.ensures.1 in
-    rw (p.1, p.2) (counts_stop g.D.Desk.finds c.args.l.now c.args.report.now c.args.config.now (showing c.args.shows.now) _ _ _ c.in_err-verdicts.ensures.went)
+    rw (p.1, p.2) (counts_stop g.D.Desk.finds c.args.l.now c.args.report.now c.args.config.now.filtering (showing c.args.shows.now) _ _ _ c.in_err-verdicts.ensures.went)
 
 -- one was refused
 pub returns-in-Err-clause-went : goal.returns-in-Err-clause-went

@@ -21,12 +21,12 @@ returns-clause-ok c f holds =
     let config = survey.config.now in
     let unit = shown c.args.head.now.unit in
     let samples = tagged_samples p f config survey.column in
-    let kept : c.as_slice.result.now ≡ filtered_from p f config 0 p.sample = c.as_slice.ensures ∙ survey.counts.kept f holds in
+    let kept : c.as_slice.result.now ≡ filtered_from p f config.filtering 0 p.sample = c.as_slice.ensures ∙ survey.counts.kept f holds in
     let are : map (survey_tagged survey f) (samples_at p c.as_slice.result.now) ≡ samples =
-    ap (map (survey_tagged survey f)) (kept_samples p f config c.as_slice.result.now kept) in
-    let fits : absolute_all survey.column config.divide_by (samples_at p c.as_slice.result.now) < 2 ^ 63 =
+    ap (map (survey_tagged survey f)) (kept_samples p f config.filtering c.as_slice.result.now kept) in
+    let fits : absolute_all survey.column config.presentation.divide_by (samples_at p c.as_slice.result.now) < 2 ^ 63 =
     kept_fits p f config survey.column c.as_slice.result.now kept
-    (values_fit p survey.column config.divide_by survey.can.countable survey.can.column) in
+    (values_fit p survey.column config.presentation.divide_by survey.can.countable survey.can.column) in
     let small : AreSmall (events_from 0 (map (survey_tagged survey f) (samples_at p c.as_slice.result.now))) =
     small_samples (map (survey_tagged survey f) (samples_at p c.as_slice.result.now))
     (subst (λ (n : ℕ). n < 2 ^ 63) (sym (sum_by-map (λ (s : Seen TagTexts). nat_abs s.value) (survey_tagged survey f) (samples_at p c.as_slice.result.now))) fits) in
