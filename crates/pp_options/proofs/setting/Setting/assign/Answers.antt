@@ -3,7 +3,7 @@ use Rattle.std.proofs.lemmas.Int.{to_z-of_z}
 use Rattle.pp_model.specs.declared.presentation.Presentation.{Presentation}
 use Rattle.pp_model.specs.declared.environment.Environment.{Environment}
 use Rattle.pp_options.specs.Settings.{assigned}
-use Rattle.pp_options.proofs.SettingLemmas.{nodecount_is, divisor_is, workers_is}
+use Rattle.pp_options.proofs.SettingLemmas.{nodecount_is, divisor_is, workers_is, presented}
 use Rattle.pp_options.proofs.setting.Setting.assign.Goals as goal
 
 -- the number of rows is from -1 on
@@ -30,3 +30,10 @@ returns-in-Workers c =
     ap (λ (e : Environment). record c.args.config.now { environment = e })
     (workers_is c.args.config.now.environment c.in-Workers.workers (rw c.in-Workers.is at c.requires) _ _)
     ∙ ap (assigned c.args.config.now) (sym c.in-Workers.is)
+
+-- another order
+pub returns-in-Sort : goal.returns-in-Sort
+unfolding assigned
+returns-in-Sort c =
+    presented c.args.config.now (record c.args.config.now.presentation { sort = c.in-Sort.sort }) _ _ _
+    ∙ ap (assigned c.args.config.now) (sym c.in-Sort.is)
