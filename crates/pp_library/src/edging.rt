@@ -10,7 +10,7 @@ ghost use Rattle.pp_library.specs.Edges.{AreRowEdges};
 ghost use Rattle.pp_library.specs.Places.{HasRowPlaces, placed_edge};
 
 use pp_base::{List, Memory, OpenGate};
-use pp_count::{Edge, Survey, edges};
+use pp_count::{Edge, Survey, recount};
 use std::alloc::Global;
 use std::thread::Threads;
 
@@ -41,7 +41,7 @@ pub fn row_edges<R: Threads + Sync>(
 {
     let names = survey.counted.sums.names.len();
     let keep = kept(alloc, names, order)?;
-    let edges = edges(rt, alloc, survey, &keep, &OpenGate)?;
+    let edges = recount(rt, alloc, survey, &keep, &OpenGate)?;
     let places = places_of(alloc, names, order)?;
     placed_edges(alloc, places.as_slice(), edges.as_slice())
 }

@@ -26,7 +26,7 @@ use pp_count::Survey;
 use pp_dump::{saved_profile, write_raw};
 use pp_graph::{node_limit, rank, trim};
 use pp_model::{Compact, Loaded, Presentation};
-use pp_samples::{write_comments, write_tags_of, write_traces_of};
+use pp_samples::{write_comments, write_tags, write_traces};
 use pp_steal::Resources;
 use pp_tables::write_profile_on;
 use pp_top::write_top;
@@ -127,7 +127,7 @@ pub fn traces<R: Threads + Sync, G: Gate>(
 {
     let alloc = with.alloc;
     let mut text = Text::new(alloc);
-    write_traces_of(
+    write_traces(
         with.rt,
         alloc,
         &subject.survey,
@@ -146,7 +146,7 @@ pub fn tags(alloc: Global, subject: &Subject<'_, '_>) -> Result<Text, Memory>
         (facts subject.now.head.now)) }
 {
     let mut text = Text::new(alloc);
-    write_tags_of(alloc, &subject.survey, subject.head, &mut text)?;
+    write_tags(alloc, &subject.survey, subject.head, &mut text)?;
     Ok(text)
 }
 

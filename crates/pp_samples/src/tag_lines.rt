@@ -6,7 +6,6 @@ ghost use Rattle.pp_units.specs.Shown.{shown};
 ghost use Rattle.pp_units.specs.Numbers.{percent_text};
 ghost use Rattle.pp_units.specs.Rows.{value_column};
 ghost use Rattle.pp_units.specs.Head.{facts};
-ghost use Rattle.pp_count.specs.Counted.{CanCount, IsCountedOf};
 ghost use Rattle.pp_count.specs.Seeing.{HoldsFilters};
 ghost use Rattle.pp_count.specs.Sums.{Seen};
 ghost use Rattle.pp_samples.specs.Names.{name_texts};
@@ -21,8 +20,7 @@ use crate::tag_counts::count_tags;
 use crate::tag_name::{TagName, tag_order};
 use crate::tag_table::{TagSum, TagTable};
 use pp_base::{List, Memory, Text};
-use pp_count::{Counted, Survey};
-use pp_model::{Config, Loaded, Verdicts};
+use pp_count::Survey;
 use pp_units::{Head, Small, Unit, put_right, put_value, write_percent};
 use std::alloc::Global;
 use std::cmp::Ordering;
@@ -42,34 +40,6 @@ pub struct TagLine<'a> {
 /// leave.
 /// `Err` is want of memory, and leaves `out` as it was.
 pub fn write_tags(
-    alloc: Global,
-    l: &Loaded,
-    v: &Verdicts,
-    c: &Counted,
-    config: &Config,
-    column: Option<u32>,
-    head: &Head,
-    out: &mut Text,
-) -> Result<(), Memory>
-    requires can { CanCount l.now.profile v.now config.now.filtering column }
-    requires counted { IsCountedOf l.now v.now config.now column c.now }
-    ensures ok { (f : Finders) → HoldsFilters l.now v.now config.now.filtering f →
-        OnOk result (out.new ≡ out.old
-        ++ tags_text l.now.profile f config.now column (facts head.now)) }
-    ensures err { OnErr result (out.new ≡ out.old) }
-{
-    let survey = Survey {
-        l,
-        v,
-        config,
-        column,
-        counted: c,
-    };
-    write_tags_of(alloc, &survey, head, out)
-}
-
-/// What `write_tags` does for the report.
-pub fn write_tags_of(
     alloc: Global,
     survey: &Survey<'_>,
     head: &Head,

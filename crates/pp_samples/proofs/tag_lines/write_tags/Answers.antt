@@ -11,7 +11,7 @@ use Rattle.pp_samples.specs.Surveyed.{survey_profile, survey_tagged}
 use Rattle.pp_samples.specs.TagLines.{TagTexts, tagged_samples, key_lines, all_keys}
 use Rattle.pp_samples.specs.Tables.{AreKeys, AreSmall, events_from}
 use Rattle.pp_samples.proofs.SmallLemmas.{small_samples}
-use Rattle.pp_samples.proofs.tag_lines.write_tags_of.Goals as goal
+use Rattle.pp_samples.proofs.tag_lines.write_tags.Goals as goal
 
 -- the samples that the filters leave are counted, and their keys listed
 pub returns-clause-ok : goal.returns-clause-ok

@@ -4,7 +4,7 @@ use Rattle.std.specs.Result.{OnOk}
 use Rattle.pp_units.specs.Shown.{shown}
 use Rattle.pp_units.specs.Head.{head_text}
 use Rattle.pp_samples.specs.Traces.{trace_separator, trace_of}
-use Rattle.pp_samples.proofs.traces.write_traces_of.Goals as goal
+use Rattle.pp_samples.proofs.traces.write_traces.Goals as goal
 
 -- the head, the samples that the filters leave, and the last separator
 pub returns-clause-ok : goal.returns-clause-ok

@@ -1,7 +1,7 @@
 use Rattle.std.proofs.Common.{refl, subst}
 use Rattle.pp_count.specs.Counted.{report_samples}
 use Rattle.pp_count.specs.EdgeSums.{AreEdgesOf}
-use Rattle.pp_count.proofs.recounting.edges.Goals as goal
+use Rattle.pp_count.proofs.recounting.recount.Goals as goal
 
 -- both ends of an edge are kept, so all are marked
 pub returns-clause-edges : goal.returns-clause-edges
