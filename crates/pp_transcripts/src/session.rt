@@ -97,7 +97,7 @@ impl<'a> Folder<'a> {
     fn fill(&mut self, session: &mut Session) -> Result<(), Unready> {
         let transcript = session.transcript;
         let gone = transcript.owed.gone.as_slice();
-        self.put_contents(&mut session.before, transcript.given.files.as_slice())?;
+        self.put_contents(&mut session.before, transcript.setup.files.as_slice())?;
         self.put_contents(&mut session.after, transcript.owed.files.as_slice())?;
         keep_others(&session.before, gone, &mut session.after)?;
         put_paths(self.alloc, session, gone)?;

@@ -25,9 +25,9 @@ pub enum Patterns {
     Literal(List<Text>),
 }
 
-/// What a session is given.
+/// The setup of a session: what it is given.
 #[derive(Drop)]
-pub struct Given {
+pub struct Setup {
     /// The parts of each file, each with its path, in order.
     pub files: List<(Text, Part)>,
     /// Paths that can't be written.
@@ -69,7 +69,7 @@ pub struct Transcript {
     /// Kinds of failure, and how many calls a session makes of the object of each.
     pub faults: List<(Fault, u64)>,
     /// What each command is given.
-    pub given: Given,
+    pub setup: Setup,
     /// What each command owes.
     pub owed: Owed,
 }
@@ -82,7 +82,7 @@ impl Transcript {
             commands: List::new(alloc),
             workers: List::new(alloc),
             faults: List::new(alloc),
-            given: Given {
+            setup: Setup {
                 files: List::new(alloc),
                 locked: List::new(alloc),
                 input: Text::new(alloc),
@@ -105,21 +105,21 @@ impl Transcript {
                 self.put_comment(text);
                 Ok(())
             }
-            Line::Files(files) => put_copies(&mut self.given.files, files),
-            Line::Put(path, bytes) => self.given.files.push((path, Part::Bytes(bytes))),
-            Line::Locked(paths) => put_all(&mut self.given.locked, paths),
+            Line::Files(files) => put_copies(&mut self.setup.files, files),
+            Line::Put(path, bytes) => self.setup.files.push((path, Part::Bytes(bytes))),
+            Line::Locked(paths) => put_all(&mut self.setup.locked, paths),
             Line::Real => {
-                self.given.is_real = true;
+                self.setup.is_real = true;
                 Ok(())
             }
             Line::Literal(refused) => {
-                self.given.patterns = Patterns::Literal(refused);
+                self.setup.patterns = Patterns::Literal(refused);
                 Ok(())
             }
             Line::Workers(numbers) => put_all(&mut self.workers, numbers),
             Line::Faults(fault, calls) => self.faults.push((fault, calls)),
             Line::Command(words) => self.commands.push(words),
-            Line::Input(text) => self.given.input.append(text),
+            Line::Input(text) => self.setup.input.append(text),
             Line::Out(text) => self.owed.out.append(text),
             Line::Err(text) => self.owed.err.append(text),
             Line::Status(status) => {
@@ -143,13 +143,13 @@ impl Transcript {
         if self.commands.len() == 0 {
             return Err(Problem::Command);
         }
-        let is_regular = matches!(&self.given.patterns, Patterns::Regular);
+        let is_regular = matches!(&self.setup.patterns, Patterns::Regular);
         let files_fail = self
             .faults
             .as_slice()
             .iter()
             .any(|(fault, _)| fault.object == Object::Files);
-        if self.given.is_real && (files_fail || !is_regular) {
+        if self.setup.is_real && (files_fail || !is_regular) {
             return Err(Problem::Real);
         }
         Ok(())
