@@ -28,7 +28,7 @@ use std::alloc::Global;
 
 /// A line, taken apart.
 #[derive(Drop)]
-pub enum Line {
+pub enum TranscriptLine {
     Comment(Text),
     /// Paths, and the names of files.
     Files(List<(Text, Text)>),
@@ -105,29 +105,29 @@ fn tag_of(spelling: &str) -> Option<Tag> {
 }
 
 /// Takes a line apart. A tag alone has an empty rest.
-pub fn line_of(alloc: Global, line: &str) -> Result<Line, Problem> {
+pub fn line_of(alloc: Global, line: &str) -> Result<TranscriptLine, Problem> {
     let (spelling, rest) = line.split_once(' ').unwrap_or((line, ""));
     match tag_of(spelling).ok_or(Problem::Tag)? {
-        Tag::Comment => Ok(Line::Comment(Text::from_slice(alloc, rest.as_bytes())?)),
-        Tag::Files => Ok(Line::Files(named_files(alloc, rest)?)),
+        Tag::Comment => Ok(TranscriptLine::Comment(Text::from_slice(alloc, rest.as_bytes())?)),
+        Tag::Files => Ok(TranscriptLine::Files(named_files(alloc, rest)?)),
         Tag::Put => put_line(alloc, rest, 1),
         Tag::PutOften => put_often(alloc, rest),
         Tag::PutNumbered => put_each(alloc, rest),
-        Tag::Locked => Ok(Line::Locked(words_of(alloc, rest)?)),
-        Tag::Real => Ok(Line::Real),
-        Tag::Literal => Ok(Line::Literal(any_words_of(alloc, rest)?)),
-        Tag::Workers => Ok(Line::Workers(words_of(alloc, rest)?)),
+        Tag::Locked => Ok(TranscriptLine::Locked(words_of(alloc, rest)?)),
+        Tag::Real => Ok(TranscriptLine::Real),
+        Tag::Literal => Ok(TranscriptLine::Literal(any_words_of(alloc, rest)?)),
+        Tag::Workers => Ok(TranscriptLine::Workers(words_of(alloc, rest)?)),
         Tag::Faults => faults_line(rest),
-        Tag::Command => Ok(Line::Command(command_of(alloc, rest)?)),
-        Tag::Input => Ok(Line::Input(text_line(alloc, rest)?)),
-        Tag::InputOften => Ok(Line::Input(text_lines(alloc, rest)?)),
-        Tag::Out => Ok(Line::Out(text_line(alloc, rest)?)),
-        Tag::OutOften => Ok(Line::Out(text_lines(alloc, rest)?)),
-        Tag::Err => Ok(Line::Err(text_line(alloc, rest)?)),
-        Tag::Status => Ok(Line::Status(rest.parse::<u8>().map_err(|_| Problem::Number)?)),
+        Tag::Command => Ok(TranscriptLine::Command(command_of(alloc, rest)?)),
+        Tag::Input => Ok(TranscriptLine::Input(text_line(alloc, rest)?)),
+        Tag::InputOften => Ok(TranscriptLine::Input(text_lines(alloc, rest)?)),
+        Tag::Out => Ok(TranscriptLine::Out(text_line(alloc, rest)?)),
+        Tag::OutOften => Ok(TranscriptLine::Out(text_lines(alloc, rest)?)),
+        Tag::Err => Ok(TranscriptLine::Err(text_line(alloc, rest)?)),
+        Tag::Status => Ok(TranscriptLine::Status(rest.parse::<u8>().map_err(|_| Problem::Number)?)),
         Tag::Holds => holds_line(alloc, rest),
-        Tag::HoldsFiles => Ok(Line::HoldsFiles(named_files(alloc, rest)?)),
-        Tag::Gone => Ok(Line::Gone(words_of(alloc, rest)?)),
+        Tag::HoldsFiles => Ok(TranscriptLine::HoldsFiles(named_files(alloc, rest)?)),
+        Tag::Gone => Ok(TranscriptLine::Gone(words_of(alloc, rest)?)),
     }
 }
 
@@ -146,10 +146,10 @@ fn command_of(alloc: Global, rest: &str) -> Result<List<Text>, Problem> {
     }
 }
 
-fn faults_line(rest: &str) -> Result<Line, Problem> {
+fn faults_line(rest: &str) -> Result<TranscriptLine, Problem> {
     let (name, count) = rest.split_once(' ').ok_or(Problem::Number)?;
     let fault = fault_named(name).ok_or(Problem::Object)?;
-    Ok(Line::Faults(fault, number_of(count)?))
+    Ok(TranscriptLine::Faults(fault, number_of(count)?))
 }
 
 fn number_of(digits: &str) -> Result<u64, Problem> {
@@ -162,31 +162,31 @@ fn counted(rest: &str) -> Result<(u64, &str), Problem> {
     Ok((number_of(digits)?, text))
 }
 
-fn put_often(alloc: Global, rest: &str) -> Result<Line, Problem> {
+fn put_often(alloc: Global, rest: &str) -> Result<TranscriptLine, Problem> {
     let (count, rest) = counted(rest)?;
     put_line(alloc, rest, count)
 }
 
-fn put_line(alloc: Global, rest: &str, count: u64) -> Result<Line, Problem> {
+fn put_line(alloc: Global, rest: &str, count: u64) -> Result<TranscriptLine, Problem> {
     let (path, spelled) = head_of(alloc, rest)?;
     let mut bytes = Text::new(alloc);
     put_unescaped(&mut bytes, spelled)?;
-    Ok(Line::Put(path, repeated(alloc, bytes, count)?))
+    Ok(TranscriptLine::Put(path, repeated(alloc, bytes, count)?))
 }
 
-fn put_each(alloc: Global, rest: &str) -> Result<Line, Problem> {
+fn put_each(alloc: Global, rest: &str) -> Result<TranscriptLine, Problem> {
     let (count, rest) = counted(rest)?;
     let (path, spelled) = head_of(alloc, rest)?;
     let mut bytes = Text::new(alloc);
     for number in 1..=count {
         put_numbered(&mut bytes, spelled, Some(in_three_bytes(number)))?;
     }
-    Ok(Line::Put(path, bytes))
+    Ok(TranscriptLine::Put(path, bytes))
 }
 
-fn holds_line(alloc: Global, rest: &str) -> Result<Line, Problem> {
+fn holds_line(alloc: Global, rest: &str) -> Result<TranscriptLine, Problem> {
     let (path, text) = head_of(alloc, rest)?;
-    Ok(Line::Holds(path, text_line(alloc, text)?))
+    Ok(TranscriptLine::Holds(path, text_line(alloc, text)?))
 }
 
 fn text_lines(alloc: Global, rest: &str) -> Result<Text, Problem> {

@@ -1,6 +1,6 @@
 //! Transcripts: what a session is given, and what it owes.
 
-use crate::line::{Line, line_of};
+use crate::line::{TranscriptLine, line_of};
 use crate::problem::Problem;
 use crate::trials::{Fault, Object};
 use pp_base::{List, Memory, Text};
@@ -99,36 +99,36 @@ impl Transcript {
         }
     }
 
-    fn put(&mut self, line: Line) -> Result<(), Memory> {
+    fn put(&mut self, line: TranscriptLine) -> Result<(), Memory> {
         match line {
-            Line::Comment(text) => {
+            TranscriptLine::Comment(text) => {
                 self.put_comment(text);
                 Ok(())
             }
-            Line::Files(files) => put_copies(&mut self.setup.files, files),
-            Line::Put(path, bytes) => self.setup.files.push((path, Part::Bytes(bytes))),
-            Line::Locked(paths) => put_all(&mut self.setup.locked, paths),
-            Line::Real => {
+            TranscriptLine::Files(files) => put_copies(&mut self.setup.files, files),
+            TranscriptLine::Put(path, bytes) => self.setup.files.push((path, Part::Bytes(bytes))),
+            TranscriptLine::Locked(paths) => put_all(&mut self.setup.locked, paths),
+            TranscriptLine::Real => {
                 self.setup.is_real = true;
                 Ok(())
             }
-            Line::Literal(refused) => {
+            TranscriptLine::Literal(refused) => {
                 self.setup.patterns = Patterns::Literal(refused);
                 Ok(())
             }
-            Line::Workers(numbers) => put_all(&mut self.workers, numbers),
-            Line::Faults(fault, calls) => self.faults.push((fault, calls)),
-            Line::Command(words) => self.commands.push(words),
-            Line::Input(text) => self.setup.input.append(text),
-            Line::Out(text) => self.owed.out.append(text),
-            Line::Err(text) => self.owed.err.append(text),
-            Line::Status(status) => {
+            TranscriptLine::Workers(numbers) => put_all(&mut self.workers, numbers),
+            TranscriptLine::Faults(fault, calls) => self.faults.push((fault, calls)),
+            TranscriptLine::Command(words) => self.commands.push(words),
+            TranscriptLine::Input(text) => self.setup.input.append(text),
+            TranscriptLine::Out(text) => self.owed.out.append(text),
+            TranscriptLine::Err(text) => self.owed.err.append(text),
+            TranscriptLine::Status(status) => {
                 self.owed.status = status;
                 Ok(())
             }
-            Line::Holds(path, text) => self.owed.files.push((path, Part::Bytes(text))),
-            Line::HoldsFiles(files) => put_copies(&mut self.owed.files, files),
-            Line::Gone(paths) => put_all(&mut self.owed.gone, paths),
+            TranscriptLine::Holds(path, text) => self.owed.files.push((path, Part::Bytes(text))),
+            TranscriptLine::HoldsFiles(files) => put_copies(&mut self.owed.files, files),
+            TranscriptLine::Gone(paths) => put_all(&mut self.owed.gone, paths),
         }
     }
 
@@ -241,8 +241,8 @@ impl TranscriptReader<'_> {
     }
 
     // Puts the line into the transcript that has begun, or begins one.
-    fn put_line(&mut self, number: u64, line: Line) -> Result<(), Memory> {
-        self.is_comment = self.is_comment && matches!(&line, Line::Comment(_));
+    fn put_line(&mut self, number: u64, line: TranscriptLine) -> Result<(), Memory> {
+        self.is_comment = self.is_comment && matches!(&line, TranscriptLine::Comment(_));
         let alloc = self.alloc;
         self.transcript
             .get_or_insert_with(|| Transcript::new(alloc, number))
