@@ -54,7 +54,7 @@ pub enum TranscriptLine {
 }
 
 #[derive(Clone, Copy)]
-enum Tag {
+enum LineTag {
     Comment,
     Files,
     Put,
@@ -77,28 +77,28 @@ enum Tag {
     Gone,
 }
 
-fn tag_of(spelling: &str) -> Option<Tag> {
+fn tag_of(spelling: &str) -> Option<LineTag> {
     let tags = [
-        (">", Tag::Out),
-        ("put", Tag::Put),
-        ("#", Tag::Comment),
-        ("files", Tag::Files),
-        ("$", Tag::Command),
-        ("<", Tag::Input),
-        ("!", Tag::Err),
-        ("=", Tag::Status),
-        ("+", Tag::Holds),
-        ("+=", Tag::HoldsFiles),
-        ("-", Tag::Gone),
-        ("put*", Tag::PutOften),
-        ("put#", Tag::PutNumbered),
-        ("<*", Tag::InputOften),
-        (">*", Tag::OutOften),
-        ("locked", Tag::Locked),
-        ("real", Tag::Real),
-        ("literal", Tag::Literal),
-        ("workers", Tag::Workers),
-        ("faults", Tag::Faults),
+        (">", LineTag::Out),
+        ("put", LineTag::Put),
+        ("#", LineTag::Comment),
+        ("files", LineTag::Files),
+        ("$", LineTag::Command),
+        ("<", LineTag::Input),
+        ("!", LineTag::Err),
+        ("=", LineTag::Status),
+        ("+", LineTag::Holds),
+        ("+=", LineTag::HoldsFiles),
+        ("-", LineTag::Gone),
+        ("put*", LineTag::PutOften),
+        ("put#", LineTag::PutNumbered),
+        ("<*", LineTag::InputOften),
+        (">*", LineTag::OutOften),
+        ("locked", LineTag::Locked),
+        ("real", LineTag::Real),
+        ("literal", LineTag::Literal),
+        ("workers", LineTag::Workers),
+        ("faults", LineTag::Faults),
     ];
     let (_, tag) = tags.iter().copied().find(|(name, _)| *name == spelling)?;
     Some(tag)
@@ -108,26 +108,28 @@ fn tag_of(spelling: &str) -> Option<Tag> {
 pub fn line_of(alloc: Global, line: &str) -> Result<TranscriptLine, Problem> {
     let (spelling, rest) = line.split_once(' ').unwrap_or((line, ""));
     match tag_of(spelling).ok_or(Problem::Tag)? {
-        Tag::Comment => Ok(TranscriptLine::Comment(Text::from_slice(alloc, rest.as_bytes())?)),
-        Tag::Files => Ok(TranscriptLine::Files(named_files(alloc, rest)?)),
-        Tag::Put => put_line(alloc, rest, 1),
-        Tag::PutOften => put_often(alloc, rest),
-        Tag::PutNumbered => put_each(alloc, rest),
-        Tag::Locked => Ok(TranscriptLine::Locked(words_of(alloc, rest)?)),
-        Tag::Real => Ok(TranscriptLine::Real),
-        Tag::Literal => Ok(TranscriptLine::Literal(any_words_of(alloc, rest)?)),
-        Tag::Workers => Ok(TranscriptLine::Workers(words_of(alloc, rest)?)),
-        Tag::Faults => faults_line(rest),
-        Tag::Command => Ok(TranscriptLine::Command(command_of(alloc, rest)?)),
-        Tag::Input => Ok(TranscriptLine::Input(text_line(alloc, rest)?)),
-        Tag::InputOften => Ok(TranscriptLine::Input(text_lines(alloc, rest)?)),
-        Tag::Out => Ok(TranscriptLine::Out(text_line(alloc, rest)?)),
-        Tag::OutOften => Ok(TranscriptLine::Out(text_lines(alloc, rest)?)),
-        Tag::Err => Ok(TranscriptLine::Err(text_line(alloc, rest)?)),
-        Tag::Status => Ok(TranscriptLine::Status(rest.parse::<u8>().map_err(|_| Problem::Number)?)),
-        Tag::Holds => holds_line(alloc, rest),
-        Tag::HoldsFiles => Ok(TranscriptLine::HoldsFiles(named_files(alloc, rest)?)),
-        Tag::Gone => Ok(TranscriptLine::Gone(words_of(alloc, rest)?)),
+        LineTag::Comment => Ok(TranscriptLine::Comment(Text::from_slice(alloc, rest.as_bytes())?)),
+        LineTag::Files => Ok(TranscriptLine::Files(named_files(alloc, rest)?)),
+        LineTag::Put => put_line(alloc, rest, 1),
+        LineTag::PutOften => put_often(alloc, rest),
+        LineTag::PutNumbered => put_each(alloc, rest),
+        LineTag::Locked => Ok(TranscriptLine::Locked(words_of(alloc, rest)?)),
+        LineTag::Real => Ok(TranscriptLine::Real),
+        LineTag::Literal => Ok(TranscriptLine::Literal(any_words_of(alloc, rest)?)),
+        LineTag::Workers => Ok(TranscriptLine::Workers(words_of(alloc, rest)?)),
+        LineTag::Faults => faults_line(rest),
+        LineTag::Command => Ok(TranscriptLine::Command(command_of(alloc, rest)?)),
+        LineTag::Input => Ok(TranscriptLine::Input(text_line(alloc, rest)?)),
+        LineTag::InputOften => Ok(TranscriptLine::Input(text_lines(alloc, rest)?)),
+        LineTag::Out => Ok(TranscriptLine::Out(text_line(alloc, rest)?)),
+        LineTag::OutOften => Ok(TranscriptLine::Out(text_lines(alloc, rest)?)),
+        LineTag::Err => Ok(TranscriptLine::Err(text_line(alloc, rest)?)),
+        LineTag::Status => Ok(TranscriptLine::Status(
+            rest.parse::<u8>().map_err(|_| Problem::Number)?,
+        )),
+        LineTag::Holds => holds_line(alloc, rest),
+        LineTag::HoldsFiles => Ok(TranscriptLine::HoldsFiles(named_files(alloc, rest)?)),
+        LineTag::Gone => Ok(TranscriptLine::Gone(words_of(alloc, rest)?)),
     }
 }
 
