@@ -1,7 +1,7 @@
 //! A transcript with the contents of its files.
 
 use crate::contents::{Contents, is_among};
-use crate::transcript::{Part, Transcript};
+use crate::transcript::{FilePart, Transcript};
 use pp_base::{FileRead, Files, List, Memory, Text};
 use pp_real::RealFiles;
 use std::alloc::Global;
@@ -108,12 +108,12 @@ impl<'a> Folder<'a> {
     fn put_contents(
         &mut self,
         contents: &mut Contents,
-        parts: &[(Text, Part)],
+        parts: &[(Text, FilePart)],
     ) -> Result<(), Unready> {
         for (path, part) in parts {
             match part {
-                Part::Bytes(bytes) => contents.append(path, bytes.as_slice())?,
-                Part::Copy(name) => {
+                FilePart::Bytes(bytes) => contents.append(path, bytes.as_slice())?,
+                FilePart::Copy(name) => {
                     let content = self.named(name)?;
                     contents.append(path, content.as_slice())?;
                 }

@@ -9,7 +9,7 @@ use std::mem;
 
 /// A part of a file's content.
 #[derive(Drop)]
-pub enum Part {
+pub enum FilePart {
     /// These bytes.
     Bytes(Text),
     /// What the file of the name holds, in the folder of the transcripts.
@@ -29,7 +29,7 @@ pub enum Patterns {
 #[derive(Drop)]
 pub struct Setup {
     /// The parts of each file, each with its path, in order.
-    pub files: List<(Text, Part)>,
+    pub files: List<(Text, FilePart)>,
     /// Paths that can't be written.
     pub locked: List<Text>,
     /// All of standard input.
@@ -50,7 +50,7 @@ pub struct Owed {
     /// The exit status.
     pub status: u8,
     /// The parts of each file that is there at the end, each with its path, in order.
-    pub files: List<(Text, Part)>,
+    pub files: List<(Text, FilePart)>,
     /// The paths at which no file is at the end.
     pub gone: List<Text>,
 }
@@ -106,7 +106,10 @@ impl Transcript {
                 Ok(())
             }
             TranscriptLine::Files(files) => put_copies(&mut self.setup.files, files),
-            TranscriptLine::Put(path, bytes) => self.setup.files.push((path, Part::Bytes(bytes))),
+            TranscriptLine::Put(path, bytes) => self
+                .setup
+                .files
+                .push((path, FilePart::Bytes(bytes))),
             TranscriptLine::Locked(paths) => put_all(&mut self.setup.locked, paths),
             TranscriptLine::Real => {
                 self.setup.is_real = true;
@@ -126,7 +129,10 @@ impl Transcript {
                 self.owed.status = status;
                 Ok(())
             }
-            TranscriptLine::Holds(path, text) => self.owed.files.push((path, Part::Bytes(text))),
+            TranscriptLine::Holds(path, text) => self
+                .owed
+                .files
+                .push((path, FilePart::Bytes(text))),
             TranscriptLine::HoldsFiles(files) => put_copies(&mut self.owed.files, files),
             TranscriptLine::Gone(paths) => put_all(&mut self.owed.gone, paths),
         }
@@ -163,9 +169,9 @@ fn put_all(into: &mut List<Text>, texts: List<Text>) -> Result<(), Memory> {
     Ok(())
 }
 
-fn put_copies(into: &mut List<(Text, Part)>, files: List<(Text, Text)>) -> Result<(), Memory> {
+fn put_copies(into: &mut List<(Text, FilePart)>, files: List<(Text, Text)>) -> Result<(), Memory> {
     for (path, name) in files.into_vec() {
-        into.push((path, Part::Copy(name)))?;
+        into.push((path, FilePart::Copy(name)))?;
     }
     Ok(())
 }
