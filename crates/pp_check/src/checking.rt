@@ -9,7 +9,7 @@ ghost use Rattle.pp_model.specs.Rules.{mapping_ids, function_ids, location_ids};
 
 use crate::fault::{CheckRefusal, Table, TableFault, refuse};
 use crate::ids::known_ids;
-use crate::known::Known;
+use crate::known::IdSet;
 use crate::references::{location_fault, sample_fault, value_fault};
 use crate::samples::Samples;
 use crate::texts::{
@@ -77,7 +77,7 @@ fn try_texts(p: &Profile, samples: Samples) -> Result<(), TableFault>
 }
 
 // Tries rules 4 and 5. Gives the ids of the mappings.
-fn known_mappings(alloc: Global, keys: HashKeys, p: &Profile) -> Result<Known, CheckRefusal>
+fn known_mappings(alloc: Global, keys: HashKeys, p: &Profile) -> Result<IdSet, CheckRefusal>
     requires { IsIndexed p.now }
     ensures faults { AnswersFault (first_fault_of (mapping_faults p.now)) result }
     ensures known { IfOk result (λ known. Knows known (mapping_ids p.now)) }
@@ -86,7 +86,7 @@ fn known_mappings(alloc: Global, keys: HashKeys, p: &Profile) -> Result<Known, C
 }
 
 // Tries rules 6 and 7. Gives the ids of the functions.
-fn known_functions(alloc: Global, keys: HashKeys, p: &Profile) -> Result<Known, CheckRefusal>
+fn known_functions(alloc: Global, keys: HashKeys, p: &Profile) -> Result<IdSet, CheckRefusal>
     requires { IsIndexed p.now }
     ensures faults { AnswersFault (first_fault_of (function_faults p.now)) result }
     ensures known { IfOk result (λ known. Knows known (function_ids p.now)) }
@@ -99,8 +99,8 @@ fn try_locations(
     alloc: Global,
     keys: HashKeys,
     p: &Profile,
-    mappings: &Known,
-    functions: &Known,
+    mappings: &IdSet,
+    functions: &IdSet,
     samples: Samples,
 ) -> Result<(), CheckRefusal>
     requires indexed { IsIndexed p.now }
@@ -123,7 +123,7 @@ pub(crate) fn known_locations(
     alloc: Global,
     keys: HashKeys,
     p: &Profile,
-) -> Result<Known, CheckRefusal>
+) -> Result<IdSet, CheckRefusal>
     requires { IsIndexed p.now }
     ensures faults { AnswersFault (first_fault_of (location_faults p.now)) result }
     ensures known { IfOk result (λ known. Knows known (location_ids p.now)) }
@@ -134,9 +134,9 @@ pub(crate) fn known_locations(
 // Tries rules 10 to 12.
 fn try_references(
     p: &Profile,
-    mappings: &Known,
-    functions: &Known,
-    locations: &Known,
+    mappings: &IdSet,
+    functions: &IdSet,
+    locations: &IdSet,
 ) -> Result<(), TableFault>
     requires indexed { IsIndexed p.now }
     requires mappings { Knows mappings.now (mapping_ids p.now) }

@@ -9,7 +9,7 @@ ghost use Rattle.pp_check.specs.Sound.{IsAsked, IsAskedAhead};
 use crate::asking::{Asked, Asking};
 use crate::checking::{known_locations, try_rules};
 use crate::fault::CheckRefusal;
-use crate::known::Known;
+use crate::known::IdSet;
 use crate::samples::Samples;
 use pp_base::Memory;
 use pp_model::{Profile, Valid};
@@ -48,7 +48,7 @@ fn ask_on<R: Threads + Sync>(with: &Resources<'_, R>, p: &Profile) -> Result<Ask
 fn ask_samples<R: Threads + Sync>(
     with: &Resources<'_, R>,
     p: &Profile,
-    locations: &Known,
+    locations: &IdSet,
 ) -> Result<Asked, Memory>
     requires { Knows locations.now (location_ids p.now) }
     ensures { IfOk result (IsAsked p.now p.now.sample) }
