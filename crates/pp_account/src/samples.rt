@@ -20,7 +20,7 @@ use std::alloc::Global;
 
 // What is seen of one sample, in room that is used again.
 #[derive(Drop)]
-struct Room {
+struct SampleRoom {
     // Its frames, as far as they are needed.
     stack: Stack,
     // The key numbers of its frames that count.
@@ -58,7 +58,7 @@ fn add_samples(alloc: Global, scope: &Scope) -> Result<Portions, Memory>
         IfOk result (λ d. d
         ≡ portions_of w.l.now.profile f (config_of w) w.column w.l.now.profile.sample) }
 {
-    let mut room = Room {
+    let mut room = SampleRoom {
         stack: List::new(alloc),
         keys: Vec::new(alloc),
     };
@@ -73,7 +73,7 @@ fn add_samples(alloc: Global, scope: &Scope) -> Result<Portions, Memory>
 fn add_sample(
     scope: &Scope,
     s: &Sample,
-    room: &mut Room,
+    room: &mut SampleRoom,
     portions: &mut Portions,
 ) -> Result<(), Memory>
     requires sound { IsSoundScope scope.now }
