@@ -4,7 +4,7 @@ ghost use Rattle.pp_count.specs.Tally.{tally_at, no_tally, placed_tally, has_pla
 ghost use Rattle.pp_count.specs.Parts.{sums_of, flat_size, cum_size};
 
 use crate::part::KeySum;
-use crate::slots::{Row, Slots};
+use crate::slots::{Slots, TallyRow};
 use crate::tally::Tally;
 use indexmap::IndexMap;
 use pp_base::{List, Memory};
@@ -275,7 +275,7 @@ fn push_row(
     sums: &mut List<KeySum>,
     tallies: &Tallies,
     place: usize,
-    row: &Row,
+    row: &TallyRow,
 ) -> Result<(), Memory>
     ensures { IfOk result (λ _. (k : ℕ) → sums_of k sums.new
         ≡ sums_of k sums.old ++ (if nat_eq row.now.key k
