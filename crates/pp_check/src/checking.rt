@@ -11,7 +11,7 @@ use crate::fault::{CheckRefusal, Table, TableFault, refuse};
 use crate::ids::known_ids;
 use crate::known::IdSet;
 use crate::references::{location_fault, sample_fault, value_fault};
-use crate::samples::Samples;
+use crate::samples::Soundness;
 use crate::texts::{
     comment_text_fault, function_text_fault, header_text_fault, mapping_text_fault,
     sample_text_fault, text_zero_fault, type_text_fault, untyped_fault,
@@ -27,7 +27,7 @@ pub fn first_fault(alloc: Global, p: &Profile) -> Result<Option<TableFault>, Mem
     requires { IsIndexed p.now }
     ensures { IfOk result (λ fault. fault ≡ first_fault p.now) }
 {
-    match try_rules(alloc, HashKeys::fixed(), p, Samples::Unasked) {
+    match try_rules(alloc, HashKeys::fixed(), p, Soundness::Unasked) {
         Ok(()) => Ok(None),
         Err(CheckRefusal::Fault(fault)) => Ok(Some(fault)),
         Err(CheckRefusal::Memory) => Err(Memory),
@@ -39,7 +39,7 @@ pub fn check(alloc: Global, p: Profile) -> Result<Valid, CheckRefusal>
     requires { IsIndexed p }
     ensures { Checks p result }
 {
-    try_rules(alloc, HashKeys::fixed(), &p, Samples::Unasked)?;
+    try_rules(alloc, HashKeys::fixed(), &p, Soundness::Unasked)?;
     Ok(Valid::claim(p))
 }
 
@@ -48,10 +48,10 @@ pub(crate) fn try_rules(
     alloc: Global,
     keys: HashKeys,
     p: &Profile,
-    samples: Samples,
+    samples: Soundness,
 ) -> Result<(), CheckRefusal>
     requires indexed { IsIndexed p.now }
-    requires sound { samples ≡ Samples.Sound → HasSoundSamples p.now }
+    requires sound { samples ≡ Soundness.Sound → HasSoundSamples p.now }
     ensures { AnswersFault (first_fault p.now) result }
 {
     try_texts(p, samples)?;
@@ -61,9 +61,9 @@ pub(crate) fn try_rules(
 }
 
 // Tries rules 1 to 3. Sound samples are left out.
-fn try_texts(p: &Profile, samples: Samples) -> Result<(), TableFault>
+fn try_texts(p: &Profile, samples: Soundness) -> Result<(), TableFault>
     requires indexed { IsIndexed p.now }
-    requires sound { samples ≡ Samples.Sound → HasSoundSamples p.now }
+    requires sound { samples ≡ Soundness.Sound → HasSoundSamples p.now }
     ensures { FindsFault (first_fault_of (text_faults p.now)) result }
 {
     refuse(1, Table::Texts, text_zero_fault(p))?;
@@ -101,15 +101,15 @@ fn try_locations(
     p: &Profile,
     mappings: &IdSet,
     functions: &IdSet,
-    samples: Samples,
+    samples: Soundness,
 ) -> Result<(), CheckRefusal>
     requires indexed { IsIndexed p.now }
     requires mappings { Knows mappings.now (mapping_ids p.now) }
     requires functions { Knows functions.now (function_ids p.now) }
-    requires sound { samples ≡ Samples.Sound → HasSoundSamples p.now }
+    requires sound { samples ≡ Soundness.Sound → HasSoundSamples p.now }
     ensures { AnswersFault (first_fault_of (location_faults p.now ++ reference_faults p.now)) result }
 {
-    if let Samples::Sound = samples {
+    if let Soundness::Sound = samples {
         refuse(10, Table::Locations, location_fault(p, mappings, functions))?;
         return Ok(());
     }

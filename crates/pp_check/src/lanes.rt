@@ -10,7 +10,7 @@ use crate::asking::{Asked, Asking};
 use crate::checking::{known_locations, try_rules};
 use crate::fault::CheckRefusal;
 use crate::known::IdSet;
-use crate::samples::Samples;
+use crate::samples::Soundness;
 use pp_base::Memory;
 use pp_model::{Profile, Valid};
 use pp_share::Hashed;
@@ -28,7 +28,7 @@ pub fn check_on<R: Threads + Sync>(
     ensures { Checks p result }
 {
     let asked = ask_on(with, &p)?;
-    try_rules(with.alloc, with.keys, &p, Samples::known(asked.sound))?;
+    try_rules(with.alloc, with.keys, &p, Soundness::known(asked.sound))?;
     Ok(Hashed::claim(Valid::claim(p), asked.hashes))
 }
 
