@@ -34,8 +34,8 @@ placed_tally tallies k =
     else no_tally
 
 -- the key number is past the list, and its row is the one at the place
-abbrev pub has_place : Tallies → ℕ → ℕ → Bool
-has_place tallies place k =
+abbrev pub has_row_at : Tallies → ℕ → ℕ → Bool
+has_row_at tallies place k =
     if nat_lt k (length tallies.listed.items) then false
     else if nat_lt k (length tallies.slots.place.items)
     then nat_eq (slice_index_or tallies.slots.place.items k 0) place
