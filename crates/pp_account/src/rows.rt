@@ -180,7 +180,8 @@ pub fn put_node_rows(
     head: &Head,
     out: &mut Text,
 ) -> Result<(), Memory>
-    ensures { IfOk result (λ _. out.new ≡ out.old ++ node_portion_lines portions.now (facts head.now)) }
+    ensures { IfOk result (λ _. out.new ≡ out.old
+        ++ node_portion_lines portions.now (facts head.now)) }
 {
     let mut scratch = Text::new(alloc);
     put_row(portions.counted, b"counted", head, &mut scratch, out)?;
