@@ -7,7 +7,7 @@ ghost use Rattle.pp_stack.specs.Filters.{has_no_items};
 ghost use Rattle.pp_count.specs.Column.{selected};
 ghost use Rattle.pp_count.specs.Scope.{AreCountable, IsSoundScope, config_of};
 ghost use Rattle.pp_count.specs.Seeing.{HoldsFilters, filtered_stack};
-ghost use Rattle.pp_account.specs.Adding.{with_sample};
+ghost use Rattle.pp_account.specs.Adding.{with_sample_value};
 ghost use Rattle.pp_account.specs.First.{first_filter};
 ghost use Rattle.pp_account.specs.Portions.{is_bare, portions_of};
 
@@ -82,7 +82,7 @@ fn add_sample(
     ensures { let w = scope.now in (f : Finders) →
         HoldsFilters w.l.now w.v.now w.config.now.filtering f →
         IfOk result (λ _. portions.new
-        ≡ with_sample (first_filter w.l.now.profile f w.config.now.filtering s.now)
+        ≡ with_sample_value (first_filter w.l.now.profile f w.config.now.filtering s.now)
         (is_bare w.l.now.profile f (config_of w) w.column s.now)
         (selected w.column w.config.now.presentation.divide_by s.now) portions.old) }
 {
