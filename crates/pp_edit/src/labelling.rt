@@ -72,8 +72,8 @@ fn set(
     num: i64,
     unit: &[u8],
 ) -> Result<Valid, Memory>
-    ensures with { IfOk result (λ q. q
-        ≡ with_label_set p (record { key = key.now; text = text.now; num = num; unit = unit.now })) }
+    ensures with { IfOk result (λ q. q ≡ with_label_set p
+        (record { key = key.now; text = text.now; num = num; unit = unit.now })) }
     ensures said { IfOk result (λ q. said_samples q
         ≡ map (said_with (record { key = key.now; text = text.now; num = num; unit = unit.now }))
         (said_samples p)) }
