@@ -1,23 +1,23 @@
 //! The lines of a transcript.
 //!
-//!     # TEXT               a comment; the first of a transcript is its title
-//!     files PATH=NAME ..   at the begin PATH holds what the file NAME holds
-//!     put PATH BYTES       adds BYTES at the end of what PATH holds at the begin
-//!     put* N PATH BYTES    the same, N times over
-//!     put# N PATH BYTES    the same for each number from 1 to N: `\#` in BYTES is the number, as a varint of three bytes
-//!     locked PATH ..       paths that can't be written
-//!     real                 the session runs over the machine's files, which are removed afterwards
-//!     literal PATTERN ..   the matcher finds plain texts, and refuses these patterns
-//!     workers N ..         the session runs once with each number of workers, and owes the same
-//!     faults OBJECT N      the session makes N calls of OBJECT: it runs once with each of them failing, and once more
-//!     $ pprof WORD ..      the command; several commands owe the same
-//!     < TEXT               a line of standard input, `<* N TEXT` N such lines
-//!     > TEXT               a line of standard output, `>* N TEXT` N such lines
-//!     ! TEXT               a line of standard error
-//!     = N                  the status, 0 where there is no such line
-//!     + PATH TEXT          a line of what PATH holds at the end
-//!     += PATH=NAME ..      at the end PATH holds what the file NAME holds
-//!     - PATH ..            at the end there is no such file
+//!     # TEXT               a comment; the first of a transcript is its title.
+//!     files PATH=NAME ..   at the start PATH holds what the file NAME holds.
+//!     put PATH BYTES       adds BYTES at the end of what PATH holds at the start.
+//!     put* N PATH BYTES    the same, N times over.
+//!     put# N PATH BYTES    the same for each number from 1 to N: `\#` in BYTES is it, as a varint of three bytes.
+//!     locked PATH ..       paths that can't be written.
+//!     real                 the session runs over the machine's files, which are removed afterwards.
+//!     literal PATTERN ..   the matcher finds plain texts, and refuses these patterns.
+//!     workers N ..         the session runs once with each number of workers, and owes the same.
+//!     faults OBJECT N      the session makes N calls of OBJECT: it runs once with each of them failing, and once more.
+//!     $ pprof WORD ..      the command; several commands owe the same.
+//!     < TEXT               a line of standard input, `<* N TEXT` N such lines.
+//!     > TEXT               a line of standard output, `>* N TEXT` N such lines.
+//!     ! TEXT               a line of standard error.
+//!     = N                  the status, 0 where there is no such line.
+//!     + PATH TEXT          a line of what PATH holds at the end.
+//!     += PATH=NAME ..      at the end PATH holds what the file NAME holds.
+//!     - PATH ..            at the end there is no such file.
 
 use crate::escapes::{in_three_bytes, put_numbered, put_unescaped};
 use crate::problem::Problem;
