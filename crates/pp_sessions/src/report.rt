@@ -12,7 +12,7 @@ const SHOWN_LINES: usize = 40;
 
 /// The printed text, and what was counted of the present file.
 #[derive(Drop)]
-pub struct Report {
+pub struct SessionReport {
     pub text: Text,
     sessions: u64,
     differing: u64,
@@ -26,9 +26,9 @@ pub struct Run<'a> {
     pub trial: Option<Trial>,
 }
 
-impl Report {
+impl SessionReport {
     pub fn new(alloc: Global) -> Self {
-        Report {
+        SessionReport {
             text: Text::new(alloc),
             sessions: 0,
             differing: 0,
