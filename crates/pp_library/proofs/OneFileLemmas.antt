@@ -1,6 +1,6 @@
 -- The command's loading of one file, and the loading of its bytes.
 use Rattle.std.proofs.Common.{◌≡◌, ℕ, Bool, true, false, List, [], ◌∷◌, length, inl, inr, refl, ap, ◌∙◌, subst, zero-add, if◌then◌else◌}
-use Rattle.std.specs.Prelude.{Option, Some, None, IfSome, is_some, nat_lt, Result, Ok, Err}
+use Rattle.std.specs.Prelude.{Option, Some, None, IfSome, nat_lt, Result, Ok, Err}
 use Rattle.std.specs.FinMap.{get-from_entries}
 use Rattle.std.proofs.lemmas.Cmp.{nat_list_cmp_total}
 use Rattle.pp_base.specs.FileMap.{FileMap, content_at}
@@ -38,13 +38,10 @@ use Rattle.pp_load.specs.Reads.{size_limit, bytes_found, read_path, with_verdict
 use Rattle.pp_load.specs.Sources.{nothing_read, within_size_limit, with_profile, with_bytes}
 use Rattle.pp_load.specs.Steps as steps
 use Rattle.pp_load.specs.Steps.{Loading}
+use Rattle.pp_load.proofs.AloneLemmas.{no_kind}
 use Rattle.pp_library.specs.Loads.{BytesLoadAsFiles, profile_of_file, load_bytes, held_files}
 
 -- ---- the script of a plan with one file
-
-no_kind : (kind : Option BaseKind) → is_some kind ≡ false → kind ≡ None
-no_kind None is = refl
-no_kind (Some kind) is = absurd (cc)
 
 -- what is loaded, by the parts of a plan
 loading : Finds → List Origin → List (List ℕ) → Option BaseKind → Bool → asking.Asking LoadRefusal Loaded
