@@ -70,6 +70,7 @@ pointwise-map E f [] (y ∷ ys) = refl
 pointwise-map E f (x ∷ xs) [] = refl
 pointwise-map E f (x ∷ xs) (y ∷ ys) = ap (λ b. E (f x) (f y) && b) (pointwise-map E f xs ys)
 
+-- all orders of kinds are total
 pub hash_total : IsTotalOrder hash_cmp
 hash_total = on_total (λ (p : Placed). p.hash) nat_cmp_total
 

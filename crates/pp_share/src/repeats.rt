@@ -63,8 +63,8 @@ pub fn find_repeats(
     Ok(all)
 }
 
-/// The samples that `find_repeats` gives, found by `with.workers` lanes, each of which looks at one class of hashes after
-/// another.
+/// The samples that `find_repeats` gives, found by `with.workers` lanes, each of which looks at one class of hashes
+/// after another.
 pub fn find_repeats_on<R: Threads + Sync>(
     with: &Resources<'_, R>,
     by: &Renumbering,
