@@ -6,10 +6,7 @@ use Rattle.std.specs.List.{list_all, list_any}
 use Rattle.std.specs.Option.{option_map_or}
 use Rattle.std.proofs.lemmas.Option.{none-some}
 use Rattle.std.proofs.lemmas.List.{take_more, take_all, drop_more}
-use Rattle.pp_model.specs.declared.profile.Profile.{Profile}
-use Rattle.pp_model.specs.Finders.{Finder}
-use Rattle.pp_model.specs.FrameTexts.{Written}
-use Rattle.pp_model.specs.Judged.{judged}
+use Rattle.pp_model.specs.Words.{Profile, Finder, Written, judged}
 use Rattle.pp_stack.specs.Filters.{AreVerdicts, finds_frame, has_no_items, is_emptied}
 use Rattle.pp_stack.proofs.ForceLemmas.{where_in_force}
 

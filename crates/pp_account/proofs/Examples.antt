@@ -2,12 +2,9 @@
 use Rattle.std.proofs.Common.{◌≡◌, ℕ, pos, [], ◌∷◌, ◌++◌, Some, None, refl, List}
 use Rattle.std.specs.Prelude.{codes, bytes_eq, Option}
 use Rattle.std.specs.Fmt.{digits}
-use Rattle.pp_model.specs.declared.verdicts.Slot.{Slot}
+use Rattle.pp_model.specs.Words.{Slot, Finder, Finders, no_finders, Written}
 use Rattle.pp_model.specs.declared.verdicts.Slot.TheVariants as slots
-use Rattle.pp_model.specs.Finders.{Finder, Finders, no_finders}
-use Rattle.pp_model.specs.FrameTexts.{Written}
-use Rattle.pp_units.specs.Numbers.{number_text, value_text, percent_text}
-use Rattle.pp_units.specs.Head.{Facts}
+use Rattle.pp_units.specs.Words.{number_text, value_text, percent_text, Facts}
 use Rattle.pp_account.specs.Account.{account_heading, account_line}
 use Rattle.pp_account.specs.First.{first_of_stack}
 

@@ -3,14 +3,8 @@ use Rattle.std.proofs.Common.{◌≡◌, Bool, true, false, not, ◌&&◌, ◌||
 use Rattle.std.specs.Prelude.{Option, Some, None, is_some, option_map, filter}
 use Rattle.std.specs.Option.{option_map_or}
 use Rattle.std.proofs.lemmas.Bool.{false≢true}
-use Rattle.pp_model.specs.declared.profile.Sample.{Sample}
-use Rattle.pp_model.specs.declared.profile.Profile.{Profile}
-use Rattle.pp_model.specs.declared.verdicts.Slot.{Slot}
+use Rattle.pp_model.specs.Words.{Sample, Profile, Slot, Filtering, Finder, Finders, stack_of, Written, written}
 use Rattle.pp_model.specs.declared.verdicts.Slot.TheVariants as slots
-use Rattle.pp_model.specs.declared.filtering.Filtering.{Filtering}
-use Rattle.pp_model.specs.Finders.{Finder, Finders}
-use Rattle.pp_model.specs.Frames.{stack_of}
-use Rattle.pp_model.specs.FrameTexts.{Written, written}
 use Rattle.pp_stack.specs.Filters.{finds_frame, load_pruned, not_hidden, frames_shown, cut, shown_from, pruned_from, is_emptied, has_no_items, kept_frames, frames_of_sample}
 use Rattle.pp_tags.specs.TagFilters.{filter_in_force, selects_or}
 use Rattle.pp_count.specs.Seeing.{filtered_stack}

@@ -4,12 +4,9 @@ use Rattle.std.specs.Prelude.{Option}
 use Rattle.std.specs.List.{flat_map}
 use Rattle.std.proofs.lemmas.Grind.{flat_map-append}
 use Rattle.std.proofs.lemmas.List.{append-nil}
-use Rattle.pp_model.specs.declared.config.Config.{Config}
-use Rattle.pp_model.specs.declared.profile.Profile.{Profile}
-use Rattle.pp_model.specs.declared.verdicts.Slot.{Slot}
+use Rattle.pp_model.specs.Words.{Config, Profile, Slot, Finders}
 use Rattle.pp_model.specs.declared.verdicts.Slot.TheVariants as slots
-use Rattle.pp_model.specs.Finders.{Finders}
-use Rattle.pp_units.specs.Head.{Facts, facts_text}
+use Rattle.pp_units.specs.Words.{Facts, facts_text}
 use Rattle.pp_account.specs.declared.nodes.NodePortions.{NodePortions}
 use Rattle.pp_account.specs.Account.{AccountRow, account_heading, account_line, account_text, bare_row, dropping, filter_row, filter_name, node_rows, sample_rows}
 use Rattle.pp_account.specs.First.{is_in_force}

@@ -1,16 +1,9 @@
 -- The text of the account report: what each filter drops, what they leave, and what the limits leave out.
 use Rattle.std.specs.Prelude.{ℕ, ◌==◌, List, [], ◌∷◌, ◌++◌, length, codes, decimal, Option, if◌then◌else◌}
 use Rattle.std.specs.List.{flat_map}
-use Rattle.pp_model.specs.declared.config.Config.{Config}
-use Rattle.pp_model.specs.declared.profile.Profile.{Profile}
-use Rattle.pp_model.specs.declared.verdicts.Slot.{Slot}
+use Rattle.pp_model.specs.Words.{Config, Profile, Slot, Filtering, Finders, variable_name}
 use Rattle.pp_model.specs.declared.verdicts.Slot.TheVariants as slots
-use Rattle.pp_model.specs.declared.filtering.Filtering.{Filtering}
-use Rattle.pp_model.specs.Finders.{Finders}
-use Rattle.pp_model.specs.ReportFacts.{variable_name}
-use Rattle.pp_units.specs.Head.{Facts, facts_text}
-use Rattle.pp_units.specs.Numbers.{right_text}
-use Rattle.pp_units.specs.Rows.{pair_text, name_end}
+use Rattle.pp_units.specs.Words.{Facts, facts_text, right_text, pair_text, name_end}
 use Rattle.pp_count.specs.Counts.{filtered_samples}
 use Rattle.pp_graph.specs.Trim.{all_report_keys, report_keys}
 use Rattle.pp_account.specs.declared.portion.Portion.{Portion}

@@ -1,7 +1,7 @@
 -- Portions with one sample more, as the machine adds it up. No public clause cites this file.
 use Rattle.std.specs.Prelude.{◌+◌, ◌%◌, ◌^◌, ℤ, pos, ◌+ℤ◌, Bool, Option, Some, None, if◌then◌else◌}
 use Rattle.std.specs.Int.{w64, int_wrap}
-use Rattle.pp_model.specs.declared.verdicts.Slot.{Slot}
+use Rattle.pp_model.specs.Words.{Slot}
 use Rattle.pp_model.specs.declared.verdicts.Slot.TheVariants as slots
 use Rattle.pp_account.specs.declared.portion.Portion.{Portion}
 use Rattle.pp_account.specs.declared.portions.Portions.{Portions as PortionsOf}

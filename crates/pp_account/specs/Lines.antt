@@ -1,12 +1,8 @@
 -- The lines of the report, over what was added up. No public clause cites this file.
 use Rattle.std.specs.Prelude.{◌≡◌, ℕ, List, [], ◌∷◌, ◌++◌, codes, Option, if◌then◌else◌}
 use Rattle.std.specs.List.{flat_map}
-use Rattle.pp_model.specs.declared.config.Config.{Config}
-use Rattle.pp_model.specs.declared.profile.Profile.{Profile}
-use Rattle.pp_model.specs.declared.verdicts.Slot.{Slot}
-use Rattle.pp_model.specs.declared.filtering.Filtering.{Filtering}
-use Rattle.pp_model.specs.Finders.{Finders}
-use Rattle.pp_units.specs.Head.{Facts, facts_text}
+use Rattle.pp_model.specs.Words.{Config, Profile, Slot, Filtering, Finders}
+use Rattle.pp_units.specs.Words.{Facts, facts_text}
 use Rattle.pp_graph.specs.Trim.{all_report_keys, report_keys}
 use Rattle.pp_account.specs.declared.nodes.NodePortions.{NodePortions}
 use Rattle.pp_account.specs.declared.portion.Portion.{Portion}

@@ -2,14 +2,8 @@
 use Rattle.std.specs.Prelude.{ℕ, pos, Bool, false, not, ◌&&◌, List, length, filter, Option}
 use Rattle.std.specs.Option.{option_map_or}
 use Rattle.std.specs.Ordering.{int_eq}
-use Rattle.pp_model.specs.declared.config.Config.{Config}
-use Rattle.pp_model.specs.declared.profile.Sample.{Sample}
-use Rattle.pp_model.specs.declared.profile.Profile.{Profile}
-use Rattle.pp_model.specs.declared.verdicts.Slot.{Slot}
+use Rattle.pp_model.specs.Words.{Config, Sample, Profile, Slot, Filtering, Presentation, Finders}
 use Rattle.pp_model.specs.declared.verdicts.Slot.TheVariants as slots
-use Rattle.pp_model.specs.declared.filtering.Filtering.{Filtering}
-use Rattle.pp_model.specs.declared.presentation.Presentation.{Presentation}
-use Rattle.pp_model.specs.Finders.{Finders}
 use Rattle.pp_stack.specs.Filters.{has_no_items}
 use Rattle.pp_count.specs.Base.{selected_all}
 use Rattle.pp_count.specs.Column.{selected}

@@ -2,10 +2,7 @@
 ghost use Rattle.std.specs.Prelude.{◌≡◌, false, length, List as Seq, Option, IfOk};
 ghost use Rattle.std.specs.List.{list_all};
 ghost use Rattle.std.specs.Option.{ForSome};
-ghost use Rattle.pp_model.specs.Conditions.{HasOnePerText, HasVerdicts, IsSampleOf, IsStackOf, RefersTo};
-ghost use Rattle.pp_model.specs.Finders.{Finder, Finders, HoldsFinders, TagFinders};
-ghost use Rattle.pp_model.specs.FrameTexts.{written};
-ghost use Rattle.pp_model.specs.Judged.{judged};
+ghost use Rattle.pp_model.specs.Words.{HasOnePerText, HasVerdicts, IsSampleOf, IsStackOf, RefersTo, Finder, Finders, HoldsFinders, TagFinders, written, judged};
 ghost use Rattle.pp_stack.specs.Filters.{AreVerdicts, finds_frame, is_emptied, not_hidden};
 ghost use Rattle.pp_stack.specs.Tables.{AreTables, FitsPattern, IsVerdictTable};
 ghost use Rattle.pp_tags.specs.TagFilters.{AreTagVerdicts, HasItsTags, selects_or};

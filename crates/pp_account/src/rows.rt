@@ -1,11 +1,8 @@
 //! The rows of the report.
 ghost use Rattle.std.specs.Prelude.{◌≡◌, ◌++◌, codes, decimal, IfOk};
 ghost use Rattle.std.specs.List.{flat_map};
-ghost use Rattle.pp_model.specs.Finders.{Finders};
-ghost use Rattle.pp_units.specs.Head.{facts};
-ghost use Rattle.pp_units.specs.Numbers.{right_text};
-ghost use Rattle.pp_units.specs.Rows.{name_end, pair_text};
-ghost use Rattle.pp_units.specs.Shown.{shown};
+ghost use Rattle.pp_model.specs.Words.{Finders};
+ghost use Rattle.pp_units.specs.Words.{facts, right_text, name_end, pair_text, shown};
 ghost use Rattle.pp_count.specs.Seeing.{HoldsFilters};
 ghost use Rattle.pp_account.specs.Account.{account_heading, account_line, bare_row, dropping, filter_name, filter_text};
 ghost use Rattle.pp_account.specs.Adding.{portion_at};

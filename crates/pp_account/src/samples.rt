@@ -1,8 +1,7 @@
 //! One pass over the samples of a report.
 ghost use Rattle.std.specs.Prelude.{◌≡◌, None, pos, not, ◌&&◌, is_some, IfOk};
 ghost use Rattle.std.specs.Ordering.{int_eq};
-ghost use Rattle.pp_model.specs.Conditions.{IsSampleOf, RefersTo};
-ghost use Rattle.pp_model.specs.Finders.{Finders};
+ghost use Rattle.pp_model.specs.Words.{IsSampleOf, RefersTo, Finders};
 ghost use Rattle.pp_stack.specs.Filters.{has_no_items};
 ghost use Rattle.pp_count.specs.Column.{selected};
 ghost use Rattle.pp_count.specs.Scope.{AreCountable, IsSoundScope, config_of};

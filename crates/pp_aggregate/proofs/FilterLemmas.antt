@@ -3,8 +3,7 @@ use Rattle.std.proofs.Common.{◌≡◌, Bool, true, false, cond, not, ◌&&◌,
 use Rattle.std.specs.Prelude.{filter, Option, Some, None, option_map}
 use Rattle.std.specs.List.{list_any}
 use Rattle.std.specs.Option.{option_map_or}
-use Rattle.pp_model.specs.Finders.{Finder, Finders}
-use Rattle.pp_model.specs.FrameTexts.{Written}
+use Rattle.pp_model.specs.Words.{Finder, Finders, Written}
 use Rattle.pp_stack.specs.Runs.{up_to_last, from_first, pruned_frames}
 use Rattle.pp_stack.specs.Filters.{finds_frame, finds_function, is_prunable, load_pruned, is_kept, not_hidden, frames_shown, cut, shown_from, pruned_from, is_emptied, left_of_cut, kept_frames, filtered}
 use Rattle.pp_aggregate.specs.Left.{finds_in_force, names_in_force, prunes, AsksNoFrame}

@@ -3,16 +3,7 @@ use Rattle.std.proofs.Common.{◌≡◌, ℕ, ◌==◌, Bool, true, false, cond,
 use Rattle.std.specs.Prelude.{find}
 use Rattle.std.specs.Option.{option_and_then, option_map_or}
 use Rattle.std.proofs.Math.ListN.{get_or-map}
-use Rattle.pp_model.specs.declared.frame.Frame.{Frame}
-use Rattle.pp_model.specs.declared.profile.Function.{Function}
-use Rattle.pp_model.specs.declared.profile.Line.{Line}
-use Rattle.pp_model.specs.declared.profile.Location.{Location}
-use Rattle.pp_model.specs.declared.profile.Mapping.{Mapping}
-use Rattle.pp_model.specs.declared.profile.Profile.{Profile}
-use Rattle.pp_model.specs.Conditions.{no_location, location_at}
-use Rattle.pp_model.specs.Lookup.{text_at, text_number, function_with, mapping_with}
-use Rattle.pp_model.specs.Frames.{line_at}
-use Rattle.pp_model.specs.FrameTexts.{Written, written}
+use Rattle.pp_model.specs.Words.{Frame, Function, Line, Location, Mapping, Profile, no_location, location_at, text_at, text_number, function_with, mapping_with, line_at, Written, written}
 use Rattle.pp_aggregate.specs.declared.aggregating.Kept.{Kept}
 use Rattle.pp_aggregate.specs.Aggregated.{number_if, aggregated_mapping, aggregated_function, aggregated_line, aggregated_location, aggregated}
 use Rattle.pp_aggregate.specs.Left.{left_of_frame}

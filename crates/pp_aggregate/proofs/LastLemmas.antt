@@ -1,7 +1,7 @@
 -- The last line of a location.
 use Rattle.std.proofs.Common.{◌≡◌, List, [], ◌∷◌, length, drop, Some, refl, ap, ◌∙◌, arith}
 use Rattle.std.specs.Prelude.{slice_get}
-use Rattle.pp_model.specs.declared.profile.Line.{Line}
+use Rattle.pp_model.specs.Words.{Line}
 use Rattle.pp_aggregate.specs.Aggregated.{outermost}
 
 -- the last of these lines, of which this one is the first

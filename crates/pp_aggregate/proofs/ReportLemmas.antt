@@ -2,14 +2,7 @@
 use Rattle.std.proofs.Common.{◌≡◌, ℕ, Bool, true, false, cond, List, [], ◌∷◌, map, Option, Some, None, option_map, refl, sym, ap, subst, ◌∙◌}
 use Rattle.std.specs.List.{filter, filter_map, cons_option, list_any}
 use Rattle.std.specs.Option.{is_some, option_map_or}
-use Rattle.pp_model.specs.declared.config.Config.{Config}
-use Rattle.pp_model.specs.declared.frame.Frame.{Frame}
-use Rattle.pp_model.specs.declared.profile.Profile.{Profile}
-use Rattle.pp_model.specs.declared.profile.Sample.{Sample}
-use Rattle.pp_model.specs.Finders.{Finder, Finders}
-use Rattle.pp_model.specs.FrameTexts.{Written, written}
-use Rattle.pp_model.specs.Frames.{stack_of}
-use Rattle.pp_model.specs.Lookup.{text_at}
+use Rattle.pp_model.specs.Words.{Config, Frame, Profile, Sample, Finder, Finders, Written, written, stack_of, text_at}
 use Rattle.pp_model.proofs.FirstText.{text_zero}
 use Rattle.pp_stack.specs.Filters.{finds_frame, load_pruned, filtered, frames_of_sample}
 use Rattle.pp_stack.proofs.ToldLemmas.{list_any-map}

@@ -6,12 +6,7 @@ use Rattle.std.proofs.lemmas.Bool.{and_parts, and_from}
 use Rattle.std.proofs.lemmas.List.Elements.{recursion_from_All}
 use Rattle.std.proofs.lemmas.List.Folds.{list_all-map}
 use Rattle.pp_base.proofs.Lists.{all_by}
-use Rattle.pp_model.specs.declared.profile.Function.{Function}
-use Rattle.pp_model.specs.declared.profile.Line.{Line}
-use Rattle.pp_model.specs.declared.profile.Location.{Location}
-use Rattle.pp_model.specs.declared.profile.Mapping.{Mapping}
-use Rattle.pp_model.specs.declared.profile.Profile.{Profile}
-use Rattle.pp_model.specs.Rules.{NoRuleFails, IsCompact, AreNumbered, begins_empty, is_text, is_zero_or_in, stands_in, mapping_ids, function_ids, location_ids, mapping_has_texts, function_has_texts, location_refers, first_failing, first_repeated}
+use Rattle.pp_model.specs.Words.{Function, Line, Location, Mapping, Profile, NoRuleFails, IsCompact, AreNumbered, begins_empty, is_text, is_zero_or_in, stands_in, mapping_ids, function_ids, location_ids, mapping_has_texts, function_has_texts, location_refers, first_failing, first_repeated}
 use Rattle.pp_model.proofs.RuleLemmas.{passes}
 use Rattle.pp_model.proofs.FirstText.{no_fault, has_text, text_zero}
 use Rattle.pp_share.proofs.NumberedLemmas.{all_mapped, nowhere}

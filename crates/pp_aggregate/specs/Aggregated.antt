@@ -1,10 +1,6 @@
 -- A profile with what is kept of it.
 use Rattle.std.specs.Prelude.{◌-◌, ℤ, pos, Bool, ◌&&◌, List, length, map, drop, if◌then◌else◌}
-use Rattle.pp_model.specs.declared.profile.Function.{Function}
-use Rattle.pp_model.specs.declared.profile.Line.{Line}
-use Rattle.pp_model.specs.declared.profile.Location.{Location}
-use Rattle.pp_model.specs.declared.profile.Mapping.{Mapping}
-use Rattle.pp_model.specs.declared.profile.Profile.{Profile}
+use Rattle.pp_model.specs.Words.{Function, Line, Location, Mapping, Profile}
 use Rattle.pp_aggregate.specs.declared.aggregating.Kept.{Kept}
 
 -- the number or text index, where it is kept, else 0

@@ -1,12 +1,6 @@
 -- Reports that do not look at what is dropped stay the same.
 use Rattle.std.specs.Prelude.{◌≡◌, ℕ, true, List, map, Option}
-use Rattle.pp_model.specs.declared.config.Config.{Config}
-use Rattle.pp_model.specs.declared.profile.Profile.{Profile}
-use Rattle.pp_model.specs.declared.profile.Sample.{Sample}
-use Rattle.pp_model.specs.declared.grouping.Grouping.{Grouping}
-use Rattle.pp_model.specs.Finders.{Finders}
-use Rattle.pp_model.specs.Frames.{stack_of}
-use Rattle.pp_model.specs.Rules.{NoRuleFails}
+use Rattle.pp_model.specs.Words.{Config, Profile, Sample, Grouping, Finders, stack_of, NoRuleFails}
 use Rattle.pp_count.specs.Column.{column_of}
 use Rattle.pp_count.specs.Sums.{renamed}
 use Rattle.pp_count.specs.Seeing.{keys_of_stack, filtered_from}

@@ -1,7 +1,6 @@
 //! What a profile keeps, and the profile with that alone.
 ghost use Rattle.std.specs.Prelude.{◌≡◌, map};
-ghost use Rattle.pp_model.specs.Rules.{IsCompact};
-ghost use Rattle.pp_model.specs.Sizes.{IsCountable};
+ghost use Rattle.pp_model.specs.Words.{IsCompact, IsCountable};
 ghost use Rattle.pp_aggregate.specs.Aggregated.{aggregated, aggregated_mapping, aggregated_function};
 
 use crate::location::aggregate_locations;

@@ -6,22 +6,13 @@ use Rattle.std.specs.FinMap.{get-insert}
 use Rattle.std.specs.Ordering.{nat_cmp, eq_by_cmp}
 use Rattle.std.proofs.lemmas.Bool.{cases_Bool, or_parts, false≢true}
 use Rattle.std.proofs.lemmas.Slice.Eq.{bytes_eq-Decides}
-use Rattle.pp_base.specs.FileMap.{FileMap, content_at, with_file, among}
-use Rattle.pp_base.specs.Judges.{Answer}
-use Rattle.pp_desk.specs.declared.file_content.FileContent.{FileContent}
+use Rattle.pp_base.specs.Words.{FileMap, content_at, with_file, among, Answer}
+use Rattle.pp_desk.specs.Words.{FileContent, InputLine, Asking, go_on, Course, course, does, asks, Effect, ToOut, ToErr, ToFile, FromFile, reads_of, next_of, after_next, Script, Give, Make, Step, WriteOut, WriteErr, ReadFile, WriteFile, Ask, NextLine, content_within}
 use Rattle.pp_desk.specs.declared.file_content.FileContent.TheVariants as contents
-use Rattle.pp_desk.specs.declared.input_line.InputLine.{InputLine}
 use Rattle.pp_desk.specs.Asking as asking
-use Rattle.pp_desk.specs.Asking.{Asking, go_on}
-use Rattle.pp_desk.specs.Course.{Course, course, does, asks}
-use Rattle.pp_desk.specs.Effects.{Effect, ToOut, ToErr, ToFile, FromFile, reads_of}
-use Rattle.pp_desk.specs.Lines.{next_of, after_next}
 use Rattle.pp_desk.specs.Script as scripts
-use Rattle.pp_desk.specs.Script.{Script, Give, Make, Step, WriteOut, WriteErr, ReadFile, WriteFile, Ask, NextLine}
-use Rattle.pp_desk.specs.Went.{content_within}
 use Rattle.pp_desk.proofs.Quiet.{Only, only_then}
-use Rattle.pp_model.specs.declared.loaded.Loaded.{Loaded}
-use Rattle.pp_model.specs.declared.profile.Profile.{Profile}
+use Rattle.pp_model.specs.Words.{Loaded, Profile}
 use Rattle.pp_load.specs.declared.reading.Read.{Read}
 use Rattle.pp_load.specs.declared.refusal.LoadRefusal.{LoadRefusal}
 use Rattle.pp_load.specs.declared.refusal.LoadRefusal.TheVariants as refusals

@@ -3,18 +3,11 @@ use Rattle.std.proofs.Common.{◌≡◌, ◌≤◌, ◌+◌, ℕ, suc, zero, Boo
 use Rattle.std.specs.Prelude.{Option, Some, None, Result, Ok, Err, IsTrue, option_map}
 use Rattle.std.proofs.lemmas.Option.{MatchOption-at_some}
 use Rattle.std.proofs.lemmas.Bool.{false≢true}
-use Rattle.pp_desk.specs.declared.input_line.InputLine.{InputLine}
+use Rattle.pp_desk.specs.Words.{InputLine, next_of, after_next, lines_of, Script, Give, Make, ◌>>=◌, Goes, Ways, after, Told}
 use Rattle.pp_desk.specs.declared.input_line.InputLine.TheVariants as lines
-use Rattle.pp_desk.specs.Lines.{next_of, after_next, lines_of}
-use Rattle.pp_desk.specs.Script.{Script, Give, Make, ◌>>=◌}
-use Rattle.pp_desk.specs.Went.{Goes, Ways, after}
-use Rattle.pp_desk.specs.World.{Told}
 use Rattle.pp_desk.proofs.Quiet.{Only, only_then, reads_no_line, input_alone}
 use Rattle.pp_desk.proofs.Going.{goes_on}
-use Rattle.pp_model.specs.declared.config.Config.{Config}
-use Rattle.pp_model.specs.declared.loaded.Loaded.{Loaded}
-use Rattle.pp_model.specs.declared.report.BaseKind.{BaseKind}
-use Rattle.pp_model.specs.declared.report.Report.{Report}
+use Rattle.pp_model.specs.Words.{Config, Loaded, BaseKind, Report}
 use Rattle.pp_report.specs.declared.refusal.ReportRefusal.{ReportRefusal}
 use Rattle.pp_shell.specs.declared.command.Command.{Command}
 use Rattle.pp_shell.specs.declared.command.Command.TheVariants as commands

@@ -6,13 +6,12 @@ use Rattle.std.proofs.lemmas.Bool.{cases_Bool}
 use Rattle.std.proofs.lemmas.Bool.Decides.{nat_tests}
 use Rattle.std.proofs.lemmas.List.{length-take}
 use Rattle.std.proofs.lemmas.List.Splits.{slice_split-cons_yes, slice_split-cons_no}
-use Rattle.pp_desk.specs.declared.input_line.InputLine.{InputLine}
+use Rattle.pp_desk.specs.Words.{InputLine, line_of, ending_of, lines_of_parts, lines_in, lines_of}
 use Rattle.pp_desk.specs.declared.input_line.InputLine.TheVariants as lines
 use Rattle.pp_desk.specs.declared.line_reader.TheConstants.{INPUT_LIMIT}
-use Rattle.pp_desk.specs.Lines.{line_of, ending_of, lines_of_parts, lines_in, lines_of}
 use Rattle.pp_desk.proofs.Parting.{parted}
 use Rattle.pp_engine.specs.declared.shell.TheConstants.{MOST_LINES}
-use Rattle.pp_base.specs.Marks.{is_line_end}
+use Rattle.pp_base.specs.Words.{is_line_end}
 
 -- the line tells how the input ends
 abbrev pub is_last : InputLine → Bool

@@ -6,19 +6,11 @@ use Rattle.std.specs.Option.{option_map_or}
 use Rattle.std.proofs.lemmas.Bool.{and_parts, le-ltb, leb-true, lt-ltb, ltb-false}
 use Rattle.std.proofs.lemmas.List.{length-append, length-map}
 use Rattle.std.proofs.lemmas.List.Sums.{sum_by-append}
-use Rattle.pp_base.specs.FileMap.{FileMap}
-use Rattle.pp_base.specs.Judges.{Answer}
+use Rattle.pp_base.specs.Words.{FileMap, Answer}
 use Rattle.pp_base.specs.Results as results
-use Rattle.pp_desk.specs.declared.input_line.InputLine.{InputLine}
+use Rattle.pp_desk.specs.Words.{InputLine, course, Give, Make}
 use Rattle.pp_desk.specs.Asking as asking
-use Rattle.pp_desk.specs.Course.{course}
-use Rattle.pp_desk.specs.Script.{Give, Make}
-use Rattle.pp_model.specs.declared.loaded.Loaded.{Loaded}
-use Rattle.pp_model.specs.declared.profile.Location.{Location}
-use Rattle.pp_model.specs.declared.profile.Profile.{Profile}
-use Rattle.pp_model.specs.declared.report.BaseKind.{BaseKind}
-use Rattle.pp_model.specs.Rules.{NoRuleFails, begins_empty}
-use Rattle.pp_model.specs.Sizes.{IsCountable}
+use Rattle.pp_model.specs.Words.{Loaded, Location, Profile, BaseKind, NoRuleFails, begins_empty, IsCountable}
 use Rattle.pp_model.proofs.FirstText.{no_fault}
 use Rattle.pp_tables.specs.declared.refusal.ReadRefusal.{ReadRefusal}
 use Rattle.pp_tables.specs.declared.refusal.ReadRefusal.TheVariants as reading

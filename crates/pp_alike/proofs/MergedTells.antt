@@ -6,14 +6,8 @@ use Rattle.std.specs.List.{AllByRecursion}
 use Rattle.std.specs.Option.{option_map_or}
 use Rattle.std.proofs.lemmas.Option.{none-some}
 use Rattle.pp_base.proofs.Lists.{all_by}
-use Rattle.pp_model.specs.declared.profile.Function.{Function}
-use Rattle.pp_model.specs.declared.profile.Label.{Label}
-use Rattle.pp_model.specs.declared.profile.Location.{Location}
-use Rattle.pp_model.specs.declared.profile.Profile.{Profile}
-use Rattle.pp_model.specs.declared.profile.Sample.{Sample}
-use Rattle.pp_model.specs.declared.report.BaseKind.{BaseKind}
+use Rattle.pp_model.specs.Words.{Function, Label, Location, Profile, Sample, BaseKind, location_with, text_of}
 use Rattle.pp_model.specs.declared.report.BaseKind.TheVariants.{Base, DiffBase}
-use Rattle.pp_model.specs.Lookup.{location_with, text_of}
 use Rattle.pp_tables.specs.Fits.{IsInt, ProfileFits, MappingFits, FunctionFits, LocationFits, LineFits, LabelFits, SampleFits}
 use Rattle.pp_share.specs.Alike.{first_alike}
 use Rattle.pp_share.specs.Described.{LabelText, LineText, LocationText, MappingText, SampleText, function_found, label_text, location_found, location_text, mapping_found, mapping_text, nowhere, sample_text, samples_found}

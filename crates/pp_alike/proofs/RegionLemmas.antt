@@ -3,7 +3,7 @@ use Rattle.std.proofs.Common.{◌≡◌, ℕ, ◌<◌, ◌^◌, Bool, true, fals
 use Rattle.std.specs.Prelude.{None, Some, if◌then◌else◌}
 use Rattle.std.specs.List.{AllByRecursion, slice_split}
 use Rattle.std.proofs.lemmas.Option.{none-some, same_Some}
-use Rattle.pp_base.specs.Marks.{is_line_end}
+use Rattle.pp_base.specs.Words.{is_line_end}
 use Rattle.pp_legacy.specs.Regions as regions
 use Rattle.pp_legacy.specs.Regions.{Region, hex_in, range_in, region_in, is_code, code_in}
 use Rattle.pp_merge.proofs.SettledLemmas.{all_any, all_some}

@@ -4,18 +4,11 @@ use Rattle.std.proofs.Math.Seq.{drop-nil}
 use Rattle.std.specs.Prelude.{Option, Some, None, Result, Ok, Err, if◌then◌else◌}
 use Rattle.std.proofs.lemmas.Bool.{false≢true}
 use Rattle.std.proofs.lemmas.List.Concat.{flat_map-append}
-use Rattle.pp_base.specs.FileMap.{FileMap, content_at, with_file, among}
-use Rattle.pp_base.specs.Judges.{Answer}
-use Rattle.pp_desk.specs.declared.input_line.InputLine.{InputLine}
-use Rattle.pp_desk.specs.Course.{Course, course, does, asks}
-use Rattle.pp_desk.specs.Effects.{Effect, ToOut, ToErr, ToFile, FromFile, outside, Did, out_of, err_of, outs, errs, files_after}
-use Rattle.pp_desk.specs.Lines.{next_of, after_next}
-use Rattle.pp_desk.specs.Script.{Script, Give, Make, WriteOut, WriteErr, ReadFile, WriteFile, Ask, NextLine, ◌>>=◌}
-use Rattle.pp_desk.specs.Went.{content_within}
+use Rattle.pp_base.specs.Words.{FileMap, content_at, with_file, among, Answer}
+use Rattle.pp_desk.specs.Words.{InputLine, Course, course, does, asks, Effect, ToOut, ToErr, ToFile, FromFile, outside, Did, out_of, err_of, outs, errs, files_after, next_of, after_next, Script, Give, Make, WriteOut, WriteErr, ReadFile, WriteFile, Ask, NextLine, ◌>>=◌, content_within}
 use Rattle.pp_desk.proofs.Closing.{files_after-append}
 use Rattle.pp_desk.proofs.Quiet.{Only}
-use Rattle.pp_model.specs.declared.loaded.Loaded.{Loaded}
-use Rattle.pp_model.specs.declared.report.Report.{Report}
+use Rattle.pp_model.specs.Words.{Loaded, Report}
 use Rattle.pp_load.specs.declared.refusal.LoadRefusal.{LoadRefusal}
 use Rattle.pp_load.specs.Load.{load}
 use Rattle.pp_options.specs.declared.plan.Plan.{Plan}

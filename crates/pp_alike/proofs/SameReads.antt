@@ -5,14 +5,8 @@ use Rattle.std.specs.Cmp.Lexicographic.{slice_cmp, nat_list_cmp_total}
 use Rattle.std.specs.FinMap.{get-insert}
 use Rattle.std.specs.Ordering.{nat_cmp, eq_by_cmp}
 use Rattle.std.proofs.lemmas.Slice.Eq.{bytes_eq-Decides}
-use Rattle.pp_base.specs.FileMap.{FileMap, content_at, with_file, among}
-use Rattle.pp_base.specs.Judges.{Answer}
-use Rattle.pp_desk.specs.declared.input_line.InputLine.{InputLine}
-use Rattle.pp_desk.specs.Course.{Course, course, does, asks}
-use Rattle.pp_desk.specs.Effects.{ToOut, ToErr, ToFile, FromFile, reads_of}
-use Rattle.pp_desk.specs.Lines.{next_of, after_next}
-use Rattle.pp_desk.specs.Script.{Script, Give, Make, WriteOut, WriteErr, ReadFile, WriteFile, Ask, NextLine}
-use Rattle.pp_desk.specs.Went.{content_within}
+use Rattle.pp_base.specs.Words.{FileMap, content_at, with_file, among, Answer}
+use Rattle.pp_desk.specs.Words.{InputLine, Course, course, does, asks, ToOut, ToErr, ToFile, FromFile, reads_of, next_of, after_next, Script, Give, Make, WriteOut, WriteErr, ReadFile, WriteFile, Ask, NextLine, content_within}
 use Rattle.pp_alike.specs.SavedGroups.{AgreeAt}
 
 or_second : (a b : Bool) → b ≡ true → (a || b) ≡ true

@@ -3,19 +3,11 @@ use Rattle.std.proofs.Common.{◌≡◌, ℕ, ◌<◌, ◌≤◌, ◌^◌, false
 use Rattle.std.specs.Prelude.{Some, None, Result, Ok}
 use Rattle.std.specs.List.{AllByRecursion}
 use Rattle.pp_base.proofs.Lists.{all_by}
-use Rattle.pp_base.specs.FileMap.{among}
+use Rattle.pp_base.specs.Words.{among}
 use Rattle.pp_desk.specs.Asking as asking
-use Rattle.pp_desk.specs.Course.{Course, course}
-use Rattle.pp_desk.specs.Effects.{outs, reads_of}
-use Rattle.pp_desk.specs.Script.{Give}
-use Rattle.pp_model.specs.declared.config.Config.{Config}
-use Rattle.pp_model.specs.declared.loaded.Loaded.{Loaded}
-use Rattle.pp_model.specs.declared.profile.Mapping.{Mapping}
-use Rattle.pp_model.specs.declared.profile.Profile.{Profile}
-use Rattle.pp_model.specs.declared.report.Report.{Report}
+use Rattle.pp_desk.specs.Words.{Course, course, outs, reads_of, Give}
+use Rattle.pp_model.specs.Words.{Config, Loaded, Mapping, Profile, Report, Finders, loaded_of}
 use Rattle.pp_model.specs.declared.report.Report.TheVariants as reports
-use Rattle.pp_model.specs.Finders.{Finders}
-use Rattle.pp_model.specs.Judged.{loaded_of}
 use Rattle.pp_tables.specs.Encode.{encode}
 use Rattle.pp_merge.proofs.AloneLemmas.{none_too_large}
 use Rattle.pp_load.specs.declared.refusal.LoadRefusal.{LoadRefusal}

@@ -11,19 +11,7 @@ use Rattle.std.proofs.lemmas.List.Sums.{get_or-le-sum_by}
 use Rattle.std.proofs.lemmas.Option.{none-some, same_Some}
 use Rattle.pp_base.proofs.Lists.{all_by}
 use Rattle.pp_wire.specs.Spelling.{bytes_field, shortest, tag_bytes, varint_bytes}
-use Rattle.pp_model.specs.declared.frame.Frame.{Frame}
-use Rattle.pp_model.specs.declared.profile.Label.{Label}
-use Rattle.pp_model.specs.declared.profile.Line.{Line}
-use Rattle.pp_model.specs.declared.profile.Location.{Location}
-use Rattle.pp_model.specs.declared.profile.Profile.{Profile}
-use Rattle.pp_model.specs.declared.profile.Sample.{Sample}
-use Rattle.pp_model.specs.declared.filtering.Filtering.{Filtering}
-use Rattle.pp_model.specs.Conditions.{location_at}
-use Rattle.pp_model.specs.Finders.{Finders}
-use Rattle.pp_model.specs.Frames.{line_at}
-use Rattle.pp_model.specs.Lookup.{text_of}
-use Rattle.pp_model.specs.Rules.{NoRuleFails}
-use Rattle.pp_model.specs.Sizes.{IsCountable, absolute_sum, value_in}
+use Rattle.pp_model.specs.Words.{Frame, Label, Line, Location, Profile, Sample, Filtering, location_at, Finders, line_at, text_of, NoRuleFails, IsCountable, absolute_sum, value_in}
 use Rattle.pp_tags.specs.Labels.{key_text}
 use Rattle.pp_tags.specs.TagFilters.{is_shown, shown_labels}
 use Rattle.pp_tables.specs.Encode.{encode, function_bytes, header_bytes, location_bytes, mapping_bytes, message_fields, sample_bytes, value_type_bytes}

@@ -3,19 +3,10 @@ use Rattle.std.proofs.Common.{◌≡◌, ℕ, ◌+◌, ◌<◌, ◌≤◌, ◌^�
 use Rattle.std.specs.Prelude.{Some, None, Option, Result, Ok}
 use Rattle.std.specs.List.{AllByRecursion}
 use Rattle.pp_base.proofs.Lists.{all_by}
-use Rattle.pp_base.specs.FileMap.{FileMap}
-use Rattle.pp_base.specs.Judges.{Answer}
-use Rattle.pp_desk.specs.declared.input_line.InputLine.{InputLine}
-use Rattle.pp_desk.specs.Course.{Course, course}
-use Rattle.pp_desk.specs.Effects.{outs, errs, reads_of, files_after}
-use Rattle.pp_desk.specs.Script.{Script}
-use Rattle.pp_model.specs.declared.loaded.Loaded.{Loaded}
-use Rattle.pp_model.specs.declared.profile.Profile.{Profile}
-use Rattle.pp_model.specs.declared.report.BaseKind.{BaseKind}
+use Rattle.pp_base.specs.Words.{FileMap, Answer}
+use Rattle.pp_desk.specs.Words.{InputLine, Course, course, outs, errs, reads_of, files_after, Script}
+use Rattle.pp_model.specs.Words.{Loaded, Profile, BaseKind, loaded_of, text_of, NoRuleFails}
 use Rattle.pp_model.specs.declared.report.Report.TheVariants as reports
-use Rattle.pp_model.specs.Judged.{loaded_of}
-use Rattle.pp_model.specs.Lookup.{text_of}
-use Rattle.pp_model.specs.Rules.{NoRuleFails}
 use Rattle.pp_share.proofs.NumberedLemmas.{all_both, all_mapped, all_parts}
 use Rattle.pp_tables.specs.Encode.{encode}
 use Rattle.pp_tables.specs.Fits.{ProfileFits}

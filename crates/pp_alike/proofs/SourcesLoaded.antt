@@ -6,23 +6,12 @@ use Rattle.std.proofs.lemmas.Bool.{le-ltb}
 use Rattle.std.proofs.lemmas.List.{length-map, take_all}
 use Rattle.std.proofs.lemmas.Option.{same_Some}
 use Rattle.pp_base.proofs.Lists.{all_by}
-use Rattle.pp_base.specs.FileMap.{FileMap, content_at}
-use Rattle.pp_base.specs.Judges.{Answer}
-use Rattle.pp_desk.specs.declared.file_content.FileContent.{FileContent}
+use Rattle.pp_base.specs.Words.{FileMap, content_at, Answer}
+use Rattle.pp_desk.specs.Words.{FileContent, InputLine, Asking, Course, course, does, Effect, FromFile, Give}
 use Rattle.pp_desk.specs.declared.file_content.FileContent.TheVariants as contents
-use Rattle.pp_desk.specs.declared.input_line.InputLine.{InputLine}
 use Rattle.pp_desk.specs.Asking as asking
-use Rattle.pp_desk.specs.Asking.{Asking}
-use Rattle.pp_desk.specs.Course.{Course, course, does}
-use Rattle.pp_desk.specs.Effects.{Effect, FromFile}
 use Rattle.pp_desk.specs.Script as scripts
-use Rattle.pp_desk.specs.Script.{Give}
-use Rattle.pp_model.specs.declared.loaded.Loaded.{Loaded}
-use Rattle.pp_model.specs.declared.profile.Profile.{Profile}
-use Rattle.pp_model.specs.declared.report.BaseKind.{BaseKind}
-use Rattle.pp_model.specs.Judged.{loaded_of}
-use Rattle.pp_model.specs.Lookup.{text_of}
-use Rattle.pp_model.specs.Rules.{NoRuleFails}
+use Rattle.pp_model.specs.Words.{Loaded, Profile, BaseKind, loaded_of, text_of, NoRuleFails}
 use Rattle.pp_share.proofs.NumberedLemmas.{all_mapped}
 use Rattle.pp_share.specs.Described.{mapping_text}
 use Rattle.pp_tables.specs.declared.refusal.ReadRefusal.{ReadRefusal}

@@ -6,14 +6,7 @@ use Rattle.std.specs.List.{AllByRecursion, filter_map, flat_map}
 use Rattle.std.specs.Option.{option_to_list, unwrap_or}
 use Rattle.std.proofs.lemmas.Option.{none-some, same_Some}
 use Rattle.pp_base.proofs.Lists.{all_by}
-use Rattle.pp_model.specs.declared.profile.Function.{Function}
-use Rattle.pp_model.specs.declared.profile.Label.{Label}
-use Rattle.pp_model.specs.declared.profile.Line.{Line}
-use Rattle.pp_model.specs.declared.profile.Location.{Location}
-use Rattle.pp_model.specs.declared.profile.Mapping.{Mapping}
-use Rattle.pp_model.specs.declared.profile.Profile.{Profile}
-use Rattle.pp_model.specs.declared.profile.Sample.{Sample}
-use Rattle.pp_model.specs.FirstSight.{distinct}
+use Rattle.pp_model.specs.Words.{Function, Label, Line, Location, Mapping, Profile, Sample, distinct}
 use Rattle.pp_tables.specs.Fits.{IsInt, IsUint}
 use Rattle.pp_share.specs.Alike.{equal_mapping, first_alike, same_function, same_location, same_mapping, same_sample}
 use Rattle.pp_share.specs.Described.{FunctionText, LabelText, LineText, LocationText, MappingText, SampleText, function_found, function_text, line_text, location_text, mapping_found, mapping_text}

@@ -1,10 +1,7 @@
 -- Sessions over files that differ at one path.
 use Rattle.std.specs.Prelude.{◌≡◌, ◌≢◌, ℕ, Bool, true, false, List, Some, Result, Ok, Err}
-use Rattle.pp_base.specs.FileMap.{FileMap, content_at, among}
-use Rattle.pp_base.specs.Judges.{Answer}
-use Rattle.pp_desk.specs.declared.input_line.InputLine.{InputLine}
-use Rattle.pp_desk.specs.Course.{Course, course}
-use Rattle.pp_desk.specs.Effects.{reads_of}
+use Rattle.pp_base.specs.Words.{FileMap, content_at, among, Answer}
+use Rattle.pp_desk.specs.Words.{InputLine, Course, course, reads_of}
 use Rattle.pp_load.specs.declared.refusal.LoadRefusal.{LoadRefusal}
 use Rattle.pp_load.specs.declared.refusal.LoadRefusal.TheVariants as refusals
 use Rattle.pp_load.specs.Load.{load}

@@ -3,16 +3,10 @@
 use Rattle.std.specs.Prelude.{◌≡◌, ◌≢◌, ◌≤◌, ◌≤ℤ◌, ◌++◌, ℕ, pos, true, false, All, List, length, Option, Some}
 use Rattle.std.specs.Prelude.{Result, Ok}
 use Rattle.std.specs.List.{list_any}
-use Rattle.pp_base.specs.FileMap.{FileMap, content_at, among}
-use Rattle.pp_base.specs.Judges.{Answer}
-use Rattle.pp_desk.specs.declared.input_line.InputLine.{InputLine}
-use Rattle.pp_desk.specs.Course.{Course, course}
-use Rattle.pp_desk.specs.Effects.{outs, errs, reads_of, files_after}
-use Rattle.pp_model.specs.declared.loaded.Loaded.{Loaded}
-use Rattle.pp_model.specs.declared.profile.Profile.{Profile}
-use Rattle.pp_model.specs.declared.report.Report.{Report}
+use Rattle.pp_base.specs.Words.{FileMap, content_at, among, Answer}
+use Rattle.pp_desk.specs.Words.{InputLine, Course, course, outs, errs, reads_of, files_after}
+use Rattle.pp_model.specs.Words.{Loaded, Profile, Report, standard_filtering}
 use Rattle.pp_model.specs.declared.report.Report.TheVariants as reports
-use Rattle.pp_model.specs.Defaults.{standard_filtering}
 use Rattle.pp_count.specs.Counts.{is_base}
 use Rattle.pp_load.specs.declared.refusal.LoadRefusal.{LoadRefusal}
 use Rattle.pp_load.specs.Alone.{HasOneFile}

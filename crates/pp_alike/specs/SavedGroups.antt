@@ -1,16 +1,10 @@
 -- Sessions over files that other sessions saved, each of a group of sources: they go as a session over all sources.
 use Rattle.std.specs.Prelude.{◌≡◌, ◌≤◌, ◌≤ℤ◌, ℕ, pos, true, List, [], ◌∷◌, length, map, Option, Some, None, Ok}
 use Rattle.std.specs.List.{AllByRecursion, sum_by}
-use Rattle.pp_base.specs.FileMap.{FileMap, content_at, among}
-use Rattle.pp_base.specs.Judges.{Answer}
-use Rattle.pp_desk.specs.declared.input_line.InputLine.{InputLine}
-use Rattle.pp_desk.specs.Course.{Course, course}
-use Rattle.pp_desk.specs.Effects.{outs, errs, reads_of, files_after}
-use Rattle.pp_model.specs.declared.profile.Profile.{Profile}
+use Rattle.pp_base.specs.Words.{FileMap, content_at, among, Answer}
+use Rattle.pp_desk.specs.Words.{InputLine, Course, course, outs, errs, reads_of, files_after}
+use Rattle.pp_model.specs.Words.{Profile, loaded_of, text_of, standard_filtering}
 use Rattle.pp_model.specs.declared.report.Report.TheVariants as reports
-use Rattle.pp_model.specs.Judged.{loaded_of}
-use Rattle.pp_model.specs.Lookup.{text_of}
-use Rattle.pp_model.specs.Defaults.{standard_filtering}
 use Rattle.pp_load.specs.Decode.{decoded}
 use Rattle.pp_load.specs.Generator.{generated}
 use Rattle.pp_load.specs.Load.{load}

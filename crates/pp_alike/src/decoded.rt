@@ -1,9 +1,9 @@
 //! What a session over a file hangs on: what the file is decoded to.
 ghost use Rattle.std.specs.Prelude.{◌≡◌, ◌<◌, ◌^◌, ℕ, true, List, length, Ok};
-ghost use Rattle.pp_base.specs.FileMap.{FileMap};
+ghost use Rattle.pp_base.specs.Words.{FileMap};
 ghost use Rattle.pp_legacy.specs.Legacy.{is_legacy, legacy};
 ghost use Rattle.pp_load.specs.Decode.{decoded};
-ghost use Rattle.pp_model.specs.declared.profile.Profile.{Profile};
+ghost use Rattle.pp_model.specs.Words.{Profile};
 ghost use Rattle.pp_tables.specs.Encode.{encode};
 ghost use Rattle.pp_tables.specs.Fits.{ProfileFits};
 ghost use Rattle.pp_alike.specs.Alike.{DifferAt, RunAlike};

@@ -1,11 +1,7 @@
 //! What holds of the shell's turns, of which a session has a number that no input uses up.
 ghost use Rattle.std.specs.Prelude.{◌≡◌, ◌+◌, ℕ, List, Option, Some};
-ghost use Rattle.pp_desk.specs.Lines.{lines_of};
-ghost use Rattle.pp_desk.specs.Went.{Goes};
-ghost use Rattle.pp_desk.specs.World.{Told};
-ghost use Rattle.pp_model.specs.declared.config.Config.{Config};
-ghost use Rattle.pp_model.specs.declared.loaded.Loaded.{Loaded};
-ghost use Rattle.pp_model.specs.declared.report.BaseKind.{BaseKind};
+ghost use Rattle.pp_desk.specs.Words.{lines_of, Goes, Told};
+ghost use Rattle.pp_model.specs.Words.{Config, Loaded, BaseKind};
 ghost use Rattle.pp_pattern.specs.Report.{Finds};
 ghost use Rattle.pp_engine.specs.declared.ending.Cause.{Cause};
 ghost use Rattle.pp_engine.specs.declared.shell.TheConstants.{MOST_LINES};

@@ -5,15 +5,7 @@ use Rattle.std.specs.List.{AllByRecursion, list_all}
 use Rattle.std.proofs.lemmas.Bool.{lt-ltb, eq-eqb, and_from, or_right, cases_eq}
 use Rattle.std.proofs.lemmas.List.{length-map}
 use Rattle.pp_base.proofs.Lists.{all_by}
-use Rattle.pp_model.specs.declared.profile.ValueType.{ValueType}
-use Rattle.pp_model.specs.declared.profile.Label.{Label}
-use Rattle.pp_model.specs.declared.profile.Line.{Line}
-use Rattle.pp_model.specs.declared.profile.Location.{Location}
-use Rattle.pp_model.specs.declared.profile.Mapping.{Mapping}
-use Rattle.pp_model.specs.declared.profile.Function.{Function}
-use Rattle.pp_model.specs.declared.profile.Sample.{Sample}
-use Rattle.pp_model.specs.declared.profile.Profile.{Profile}
-use Rattle.pp_model.specs.Rules.{NoRuleFails, AreNumbered, is_text, header_texts, zero_unless, stands_in, is_zero_or_in, location_refers, type_has_texts, label_has_texts, mapping_has_texts, function_has_texts, mapping_ids, function_ids, location_ids}
+use Rattle.pp_model.specs.Words.{ValueType, Label, Line, Location, Mapping, Function, Sample, Profile, NoRuleFails, AreNumbered, is_text, header_texts, zero_unless, stands_in, is_zero_or_in, location_refers, type_has_texts, label_has_texts, mapping_has_texts, function_has_texts, mapping_ids, function_ids, location_ids}
 use Rattle.pp_share.proofs.NumberedLemmas.{all_pass, nowhere, nonzero, unrepeated, stands_at}
 use Rattle.pp_build.specs.Growing.{IsBuilt, IdIn, TypeIn, LabelIn, MappingIn, FunctionIn, LocationIn, SampleIn}
 

@@ -5,16 +5,7 @@ use Rattle.std.specs.List.{AllByRecursion, list_any}
 use Rattle.std.specs.Str.{bytes_eq}
 use Rattle.std.proofs.lemmas.Bool.{lt-ltb, ltb-true}
 use Rattle.pp_base.proofs.Lists.{all_push, all_by}
-use Rattle.pp_model.specs.declared.profile.ValueType.{ValueType}
-use Rattle.pp_model.specs.declared.profile.Label.{Label}
-use Rattle.pp_model.specs.declared.profile.Line.{Line}
-use Rattle.pp_model.specs.declared.profile.Location.{Location}
-use Rattle.pp_model.specs.declared.profile.Mapping.{Mapping}
-use Rattle.pp_model.specs.declared.profile.Function.{Function}
-use Rattle.pp_model.specs.declared.profile.Sample.{Sample}
-use Rattle.pp_model.specs.declared.profile.Profile.{Profile}
-use Rattle.pp_model.specs.Rules.{begins_empty, header_texts}
-use Rattle.pp_model.specs.FirstSight.{seen_with}
+use Rattle.pp_model.specs.Words.{ValueType, Label, Line, Location, Mapping, Function, Sample, Profile, begins_empty, header_texts, seen_with}
 use Rattle.pp_build.specs.Adding.{no_entries, with_new_text, with_type, with_mapping, with_function, with_location, with_new_sample}
 use Rattle.pp_build.specs.Same.{same_mapping_entry, same_function_entry, same_location_entry}
 use Rattle.pp_build.specs.Growing.{IsBuilt, TextIn, TypeIn, LabelIn, MappingIn, FunctionIn, LocationIn, IdIn, SampleIn}

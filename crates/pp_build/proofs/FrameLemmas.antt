@@ -5,12 +5,9 @@ use Rattle.std.specs.Option.{option_map, option_map_or}
 use Rattle.std.specs.Str.{bytes_eq}
 use Rattle.std.proofs.lemmas.List.{append_assoc}
 use Rattle.std.proofs.lemmas.Option.{none-some}
-use Rattle.pp_base.specs.Front.{IsFront}
+use Rattle.pp_base.specs.Words.{IsFront}
 use Rattle.pp_base.proofs.Lists.{own_front}
-use Rattle.pp_model.specs.declared.profile.Function.{Function}
-use Rattle.pp_model.specs.declared.profile.Mapping.{Mapping}
-use Rattle.pp_model.specs.declared.profile.Profile.{Profile}
-use Rattle.pp_model.specs.Lookup.{text_number, text_at, text_of, mapping_with, function_with}
+use Rattle.pp_model.specs.Words.{Function, Mapping, Profile, text_number, text_at, text_of, mapping_with, function_with}
 use Rattle.pp_model.proofs.CompactLemmas.{find_by_place}
 use Rattle.pp_model.proofs.FirstText.{some_text, first_empty}
 use Rattle.pp_model.proofs.LookupLemmas.{no_mapping}

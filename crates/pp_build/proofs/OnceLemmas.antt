@@ -5,8 +5,7 @@ use Rattle.std.proofs.lemmas.Bool.{cases_lt}
 use Rattle.std.proofs.lemmas.List.{length-map, map-append, get_or_append_left}
 use Rattle.std.proofs.Math.Seq.{get_or-append_seam}
 use Rattle.pp_base.proofs.Lists.{all_push}
-use Rattle.pp_model.specs.Rules.{AreNumbered}
-use Rattle.pp_model.specs.FirstSight.{seen_with, place_of}
+use Rattle.pp_model.specs.Words.{AreNumbered, seen_with, place_of}
 use Rattle.pp_model.proofs.FirstSightLemmas.{any-map, place-map, seen_with-map}
 
 all_units : {A : Type 0} (xs : List A) → AllByRecursion (λ _. Unit {0}) xs

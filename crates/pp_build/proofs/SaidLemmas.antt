@@ -7,22 +7,12 @@ use Rattle.std.proofs.lemmas.Bool.{ltb-true, eqb-false}
 use Rattle.std.proofs.lemmas.List.{get_or_append_left, map-append}
 use Rattle.std.proofs.lemmas.List.Concat.{flat_map-cons}
 use Rattle.std.proofs.lemmas.Option.{slice_get-get_or}
-use Rattle.pp_base.specs.Front.{IsFront}
-use Rattle.pp_model.specs.declared.profile.Label.{Label}
-use Rattle.pp_model.specs.declared.profile.Line.{Line}
-use Rattle.pp_model.specs.declared.profile.Location.{Location}
-use Rattle.pp_model.specs.declared.profile.Mapping.{Mapping}
-use Rattle.pp_model.specs.declared.profile.Function.{Function}
-use Rattle.pp_model.specs.declared.profile.Sample.{Sample}
-use Rattle.pp_model.specs.declared.profile.Profile.{Profile}
-use Rattle.pp_model.specs.Conditions.{no_location}
-use Rattle.pp_model.specs.Lookup.{text_number, text_at, text_of, mapping_with, function_with, location_with, place_read}
-use Rattle.pp_model.specs.FrameTexts.{object_number, name_number, file_number, written_line, written_lines, written_at}
+use Rattle.pp_base.specs.Words.{IsFront}
+use Rattle.pp_model.specs.Words.{Label, Line, Location, Mapping, Function, Sample, Profile, no_location, text_number, text_at, text_of, mapping_with, function_with, location_with, place_read, object_number, name_number, file_number, written_line, written_lines, written_at, seen_with}
 use Rattle.pp_model.proofs.CompactLemmas.{find_by_place}
 use Rattle.pp_model.proofs.LookupLemmas.{no_function, no_mapping}
 use Rattle.pp_share.specs.Described.{label_text}
 use Rattle.pp_build.specs.Growing.{IsBuilt, IdIn, TextIn, LabelIn, MappingIn, FunctionIn, LocationIn, SampleIn}
-use Rattle.pp_model.specs.FirstSight.{seen_with}
 use Rattle.std.specs.List.{list_any}
 use Rattle.std.specs.Str.{bytes_eq}
 use Rattle.pp_base.proofs.Lists.{all_by, map_agree, own_front}

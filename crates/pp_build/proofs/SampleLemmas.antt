@@ -3,8 +3,7 @@ use Rattle.std.proofs.Common.{◌≡◌, ℕ, ◌<◌, List, [], ◌∷◌, ◌+
 use Rattle.std.specs.Prelude.{ℤ, Result, Ok, Err, OnOk, OnErr}
 use Rattle.std.proofs.lemmas.List.Elements.{recursion_from_All}
 use Rattle.pp_base.proofs.Lists.{all_by}
-use Rattle.pp_model.specs.declared.profile.Sample.{Sample}
-use Rattle.pp_model.specs.declared.profile.Profile.{Profile}
+use Rattle.pp_model.specs.Words.{Sample, Profile}
 use Rattle.pp_share.proofs.NumberedLemmas.{all_mapped}
 use Rattle.pp_build.specs.declared.given.LocationId.{LocationId}
 use Rattle.pp_build.specs.declared.given.SampleLabel.{SampleLabel}

@@ -13,16 +13,7 @@ use Rattle.std.proofs.lemmas.Bool.Decides.{Decides-eqb, Decides-int_eq}
 use Rattle.std.proofs.lemmas.List.Folds.{find_at}
 use Rattle.std.proofs.lemmas.Option.{slice_get-get_or, get_or_from_slice_get}
 use Rattle.std.proofs.lemmas.Slice.Eq.{bytes_eq-Decides, slice_eq-Decides}
-use Rattle.pp_model.specs.declared.profile.Line.{Line}
-use Rattle.pp_model.specs.declared.profile.Location.{Location}
-use Rattle.pp_model.specs.declared.profile.Mapping.{Mapping}
-use Rattle.pp_model.specs.declared.profile.Function.{Function}
-use Rattle.pp_model.specs.declared.profile.Profile.{Profile}
-use Rattle.pp_model.specs.Conditions.{no_location}
-use Rattle.pp_model.specs.FirstSight.{seen_with, place_of}
-use Rattle.pp_model.specs.Rules.{begins_empty}
-use Rattle.pp_model.specs.FrameTexts.{name_number, file_number, written_lines, written_at}
-use Rattle.pp_model.specs.Lookup.{text_number, text_at, text_of, mapping_with, place_read}
+use Rattle.pp_model.specs.Words.{Line, Location, Mapping, Function, Profile, no_location, seen_with, place_of, begins_empty, name_number, file_number, written_lines, written_at, text_number, text_at, text_of, mapping_with, place_read}
 use Rattle.pp_model.proofs.CompactLemmas.{find_by_place}
 use Rattle.pp_model.proofs.FirstText.{first_empty}
 use Rattle.pp_model.proofs.LookupLemmas.{no_function, no_mapping}

@@ -1,13 +1,7 @@
 -- A builder's profile after one call more. Equal entries are one, and an entry's id is its place plus 1.
 use Rattle.std.specs.Prelude.{ℕ, ◌+◌, ℤ, pos, false, List, [], ◌∷◌, ◌++◌, length}
 use Rattle.std.specs.Str.{bytes_eq}
-use Rattle.pp_model.specs.declared.profile.ValueType.{ValueType}
-use Rattle.pp_model.specs.declared.profile.Mapping.{Mapping}
-use Rattle.pp_model.specs.declared.profile.Function.{Function}
-use Rattle.pp_model.specs.declared.profile.Location.{Location}
-use Rattle.pp_model.specs.declared.profile.Sample.{Sample}
-use Rattle.pp_model.specs.declared.profile.Profile.{Profile}
-use Rattle.pp_model.specs.FirstSight.{seen_with, place_of}
+use Rattle.pp_model.specs.Words.{ValueType, Mapping, Function, Location, Sample, Profile, seen_with, place_of}
 use Rattle.pp_build.specs.Same.{same_mapping_entry, same_function_entry, same_location_entry}
 
 -- the profile with nothing but the empty text

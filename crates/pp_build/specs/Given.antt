@@ -1,12 +1,6 @@
 -- What a caller gives, as entries of the profile's tables that have no id yet.
 use Rattle.std.specs.Prelude.{ℕ, ◌<◌, ℤ, pos, false, List, map}
-use Rattle.pp_model.specs.declared.profile.ValueType.{ValueType}
-use Rattle.pp_model.specs.declared.profile.Label.{Label}
-use Rattle.pp_model.specs.declared.profile.Mapping.{Mapping}
-use Rattle.pp_model.specs.declared.profile.Function.{Function}
-use Rattle.pp_model.specs.declared.profile.Line.{Line}
-use Rattle.pp_model.specs.declared.profile.Location.{Location}
-use Rattle.pp_model.specs.declared.profile.Sample.{Sample}
+use Rattle.pp_model.specs.Words.{ValueType, Label, Mapping, Function, Line, Location, Sample}
 use Rattle.pp_build.specs.declared.given.TextId.{TextId}
 use Rattle.pp_build.specs.declared.given.MappingId.{MappingId}
 use Rattle.pp_build.specs.declared.given.LocationId.{LocationId}

@@ -1,15 +1,8 @@
 -- What holds of a builder's profile at all times, and how it grows.
 use Rattle.std.specs.Prelude.{◌≡◌, ℕ, ◌<◌, ◌≤◌, ◌^◌, ℤ, true, length}
 use Rattle.std.specs.List.{AllByRecursion}
-use Rattle.pp_base.specs.Front.{IsFront}
-use Rattle.pp_model.specs.declared.profile.ValueType.{ValueType}
-use Rattle.pp_model.specs.declared.profile.Label.{Label}
-use Rattle.pp_model.specs.declared.profile.Mapping.{Mapping}
-use Rattle.pp_model.specs.declared.profile.Function.{Function}
-use Rattle.pp_model.specs.declared.profile.Location.{Location}
-use Rattle.pp_model.specs.declared.profile.Sample.{Sample}
-use Rattle.pp_model.specs.declared.profile.Profile.{Profile}
-use Rattle.pp_model.specs.Rules.{is_text_of, begins_empty, header_texts, AreNumbered, mapping_ids, function_ids, location_ids}
+use Rattle.pp_base.specs.Words.{IsFront}
+use Rattle.pp_model.specs.Words.{ValueType, Label, Mapping, Function, Location, Sample, Profile, is_text_of, begins_empty, header_texts, AreNumbered, mapping_ids, function_ids, location_ids}
 
 -- the index of a text, where there are `texts`
 abbrev pub TextIn : ℕ → ℤ → Type 0

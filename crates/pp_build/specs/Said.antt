@@ -1,11 +1,7 @@
 -- What the samples of a profile say: their stacks in texts, their values, and their labels in texts.
 use Rattle.std.specs.Prelude.{ℕ, ℤ, pos, List, [], map}
-use Rattle.pp_base.specs.Front.{IsFront}
-use Rattle.pp_model.specs.declared.profile.Location.{Location}
-use Rattle.pp_model.specs.declared.profile.Sample.{Sample}
-use Rattle.pp_model.specs.declared.profile.Profile.{Profile}
-use Rattle.pp_model.specs.FrameTexts.{Written, written_lines, written_stack}
-use Rattle.pp_model.specs.Lookup.{text_of}
+use Rattle.pp_base.specs.Words.{IsFront}
+use Rattle.pp_model.specs.Words.{Location, Sample, Profile, Written, written_lines, written_stack, text_of}
 use Rattle.pp_share.specs.Described.{LabelText, label_text}
 
 -- A sample, written out: its frames, leaf first, its values, and its labels in order.

@@ -3,10 +3,7 @@ use Rattle.std.specs.Prelude.{◌==◌, Bool, ◌&&◌}
 use Rattle.std.specs.Bool.{beq}
 use Rattle.std.specs.Ordering.{int_eq}
 use Rattle.std.specs.Cmp.Lexicographic.{pointwise}
-use Rattle.pp_model.specs.declared.profile.Mapping.{Mapping}
-use Rattle.pp_model.specs.declared.profile.Function.{Function}
-use Rattle.pp_model.specs.declared.profile.Line.{Line}
-use Rattle.pp_model.specs.declared.profile.Location.{Location}
+use Rattle.pp_model.specs.Words.{Mapping, Function, Line, Location}
 
 -- the mappings are of the same part of the same file, and say the same of their locations
 abbrev pub same_mapping_entry : Mapping → Mapping → Bool

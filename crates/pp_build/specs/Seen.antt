@@ -1,10 +1,7 @@
 -- The keys of a builder's tables. No public clause cites them.
 use Rattle.std.specs.Prelude.{◌≡◌, ℕ, map}
 use Rattle.std.proofs.Common.{Vec, Global}
-use Rattle.pp_model.specs.declared.profile.Mapping.{Mapping}
-use Rattle.pp_model.specs.declared.profile.Function.{Function}
-use Rattle.pp_model.specs.declared.profile.Location.{Location}
-use Rattle.pp_model.specs.declared.profile.Profile.{Profile}
+use Rattle.pp_model.specs.Words.{Mapping, Function, Location, Profile}
 use Rattle.pp_build.specs.declared.seen.BuiltMapping.{BuiltMapping}
 use Rattle.pp_build.specs.declared.seen.BuiltFunction.{BuiltFunction}
 use Rattle.pp_build.specs.declared.seen.BuiltLocation.{BuiltLocation}

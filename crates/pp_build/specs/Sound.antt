@@ -1,5 +1,5 @@
 -- What a builder keeps at all times. No public clause cites it.
-use Rattle.pp_model.specs.declared.profile.Profile.{Profile}
+use Rattle.pp_model.specs.Words.{Profile}
 use Rattle.pp_build.specs.declared.seen.Seen.{Seen}
 use Rattle.pp_build.specs.Growing.{IsBuilt}
 use Rattle.pp_build.specs.Seen.{HoldsKeys}

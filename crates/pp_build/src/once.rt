@@ -1,7 +1,7 @@
 //! A table whose items stand once.
 ghost use Rattle.std.specs.Prelude.{◌≡◌, ◌+◌, ◌++◌, [], ◌∷◌, IfOk, OnOk, OnErr, if◌then◌else◌};
 ghost use Rattle.std.specs.List.{list_any};
-ghost use Rattle.pp_model.specs.FirstSight.{seen_with, place_of};
+ghost use Rattle.pp_model.specs.Words.{seen_with, place_of};
 
 use indexmap::IndexSet;
 use pp_base::{List, Memory};

@@ -8,8 +8,8 @@ use Rattle.std.specs.Ordering.{is_eq}
 use Rattle.std.proofs.Math.IntN.{+ℤ_idr}
 use Rattle.std.proofs.lemmas.List.{append-nil}
 use Rattle.std.proofs.lemmas.List.Concat.{flat_map-cons}
-use Rattle.pp_model.specs.FrameTexts.{Written}
-use Rattle.pp_grain.specs.Keys.{key_cmp}
+use Rattle.pp_model.specs.Words.{Written}
+use Rattle.pp_grain.specs.Words.{key_cmp}
 use Rattle.pp_grain.proofs.CallerLemmas.{key_cmp_total}
 use Rattle.pp_count.specs.Sums.{Seen, sum_where}
 use Rattle.pp_count.proofs.EachOnce.{ranked}

@@ -19,9 +19,8 @@ use Rattle.std.proofs.lemmas.List.Folds.{list_any_at}
 use Rattle.std.proofs.lemmas.List.Sums.{get_or-le-sum_by}
 use Rattle.pp_base.proofs.Booleans.{is_true}
 use Rattle.pp_base.proofs.Orders.{equal_is}
-use Rattle.pp_model.specs.declared.profile.Profile.{Profile}
-use Rattle.pp_model.specs.FrameTexts.{Written}
-use Rattle.pp_grain.specs.Keys.{key_cmp}
+use Rattle.pp_model.specs.Words.{Profile, Written}
+use Rattle.pp_grain.specs.Words.{key_cmp}
 use Rattle.pp_grain.proofs.CallerLemmas.{key_cmp_total, key_cmp_ties}
 use Rattle.pp_count.specs.Sums.{Seen, sum_where, leads, flat}
 use Rattle.pp_count.specs.Ranks.{set_entry}

@@ -14,8 +14,8 @@ use Rattle.std.proofs.lemmas.List.Sorted.{IsPermutation-map, All-permutation, li
 use Rattle.std.proofs.lemmas.Map.Keys.{IsDistinct-IsPermutation}
 use Rattle.pp_base.proofs.Booleans.{same_bool}
 use Rattle.pp_base.proofs.Orders.{both_equal, equal_is}
-use Rattle.pp_model.specs.FrameTexts.{Written}
-use Rattle.pp_grain.specs.Keys.{key_cmp}
+use Rattle.pp_model.specs.Words.{Written}
+use Rattle.pp_grain.specs.Words.{key_cmp}
 use Rattle.pp_grain.proofs.CallerLemmas.{key_cmp_total, key_cmp_ties}
 use Rattle.pp_count.specs.Sums.{Seen, renamed}
 use Rattle.pp_count.specs.Parts.{HasBelow}

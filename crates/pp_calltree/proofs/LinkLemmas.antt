@@ -5,7 +5,7 @@ use Rattle.std.proofs.lemmas.Bool.{cases_lt, lt-ltb, le-ltb, eq-eqb, ne_eqb}
 use Rattle.std.proofs.lemmas.List.{drop_more, drop_all, take_more, get_or_append_left, get_or-append_right, get_or_past, get_or-take, get_or-replicate, get_or_default, get_or-set_same, get_or-set_other, length-map, length-replicate, length-set}
 use Rattle.std.proofs.Math.Seq.{get_or-append_seam}
 use Rattle.std.proofs.lemmas.Option.{slice_get-map, slice_get-get_or}
-use Rattle.pp_grain.specs.declared.key.Key.{Key}
+use Rattle.pp_grain.specs.Words.{Key}
 use Rattle.pp_calltree.specs.declared.tree.PathNode.{PathNode}
 use Rattle.pp_calltree.specs.declared.tree.NumberedNode.{NumberedNode}
 use Rattle.pp_calltree.specs.Tree.{depth_at, next_sibling, sibling_in, above_in, parent}

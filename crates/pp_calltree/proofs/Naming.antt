@@ -3,9 +3,8 @@ use Rattle.std.proofs.Common.{◌≢◌, All, Option, ap}
 use Rattle.std.specs.Prelude.{AllPairs}
 use Rattle.std.specs.Option.{option_map_or}
 use Rattle.std.proofs.lemmas.Option.{slice_get-get_or}
-use Rattle.pp_model.specs.Rules.{IsCompact}
-use Rattle.pp_grain.specs.declared.key.Key.{Key}
-use Rattle.pp_grain.specs.Keys.{key_written, IsKeyOf}
+use Rattle.pp_model.specs.Words.{IsCompact}
+use Rattle.pp_grain.specs.Words.{Key, key_written, IsKeyOf}
 use Rattle.pp_count.specs.Table.{no_key}
 use Rattle.pp_count.proofs.Keyed.{apart}
 use Rattle.pp_calltree.specs.declared.texts.NameTexts.{NameTexts}

@@ -14,8 +14,8 @@ use Rattle.std.proofs.lemmas.List.Sorted.{sum_by-IsPermutation, list_any-IsPermu
 use Rattle.std.proofs.lemmas.List.Sums.{sum_by-cons}
 use Rattle.pp_base.proofs.Booleans.{marked}
 use Rattle.pp_base.proofs.Sums.{above, below, above_below}
-use Rattle.pp_model.specs.FrameTexts.{Written}
-use Rattle.pp_grain.specs.Keys.{key_cmp}
+use Rattle.pp_model.specs.Words.{Written}
+use Rattle.pp_grain.specs.Words.{key_cmp}
 use Rattle.pp_count.specs.Ranks.{by_size, each_once, set_entry}
 use Rattle.pp_count.specs.Sums.{Seen, sum_where}
 use Rattle.pp_count.proofs.EachOnce.{keys-items}

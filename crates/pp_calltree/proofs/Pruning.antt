@@ -8,9 +8,8 @@ use Rattle.std.proofs.lemmas.List.{append-nil, drop_all, map-append}
 use Rattle.std.proofs.lemmas.List.Concat.{flat_map-cons}
 use Rattle.std.proofs.lemmas.List.Elements.{All-nil, All-push}
 use Rattle.std.proofs.lemmas.List.Sums.{sum_by-cons, sum_by_push}
-use Rattle.pp_model.specs.declared.profile.Profile.{Profile}
-use Rattle.pp_model.specs.FrameTexts.{Written}
-use Rattle.pp_grain.specs.Keys.{IsKeyOf}
+use Rattle.pp_model.specs.Words.{Profile, Written}
+use Rattle.pp_grain.specs.Words.{IsKeyOf}
 use Rattle.pp_count.specs.Ranks.{is_heavy}
 use Rattle.pp_count.specs.Sums.{Seen}
 use Rattle.pp_calltree.specs.declared.tree.PathNode.{PathNode}

@@ -5,8 +5,8 @@ use Rattle.std.proofs.Math.IntN.{+ℤ_assoc, +ℤ_idl, +ℤ_idr}
 use Rattle.std.proofs.lemmas.List.{drop_all, append-nil}
 use Rattle.std.proofs.lemmas.List.Sums.{sum_by-cons}
 use Rattle.pp_base.proofs.Sums.{triangle}
-use Rattle.pp_model.specs.declared.profile.Profile.{Profile}
-use Rattle.pp_units.specs.Shown.{Shown}
+use Rattle.pp_model.specs.Words.{Profile}
+use Rattle.pp_units.specs.Words.{Shown}
 use Rattle.pp_calltree.specs.declared.tree.PathNode.{PathNode}
 use Rattle.pp_calltree.specs.Laid.{node_row}
 use Rattle.pp_calltree.specs.Shown.{flat_sizes}

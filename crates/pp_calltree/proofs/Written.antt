@@ -1,12 +1,9 @@
 -- What is written of the nodes that are shown is the text of the call tree.
 use Rattle.std.proofs.Common.{◌≡◌, ℕ, ◌-◌, List, length, map, Option, sym, ap, ◌∙◌}
 use Rattle.std.proofs.lemmas.List.{length-map}
-use Rattle.pp_model.specs.declared.config.Config.{Config}
-use Rattle.pp_model.specs.declared.loaded.Loaded.{Loaded}
-use Rattle.pp_model.specs.declared.verdicts.Verdicts.{Verdicts}
-use Rattle.pp_model.specs.Finders.{Finders}
-use Rattle.pp_units.specs.Head.{Facts}
-use Rattle.pp_grain.specs.Keys.{key_cmp}
+use Rattle.pp_model.specs.Words.{Config, Loaded, Verdicts, Finders}
+use Rattle.pp_units.specs.Words.{Facts}
+use Rattle.pp_grain.specs.Words.{key_cmp}
 use Rattle.pp_count.specs.Seeing.{HoldsFilters}
 use Rattle.pp_calltree.specs.declared.tree.PathNode.{PathNode}
 use Rattle.pp_calltree.specs.CallTree.{all_lengths, path_samples, shown_nodes}

@@ -1,10 +1,7 @@
 -- The paths of all samples of a report, as they are gathered for its call tree. Of it, public clauses cite `IsScopeOf`.
 use Rattle.std.specs.Prelude.{◌≡◌, ℕ, List, length, Option}
 use Rattle.std.specs.List.{sum_by}
-use Rattle.pp_model.specs.declared.config.Config.{Config}
-use Rattle.pp_model.specs.declared.loaded.Loaded.{Loaded}
-use Rattle.pp_model.specs.declared.verdicts.Verdicts.{Verdicts}
-use Rattle.pp_model.specs.Finders.{Finders}
+use Rattle.pp_model.specs.Words.{Config, Loaded, Verdicts, Finders}
 use Rattle.pp_count.specs.declared.scope.Scope.{Scope}
 use Rattle.pp_count.specs.Scope.{profile_in_scope, config_of, samples_in_scope, AreCountable, IsSoundScope}
 use Rattle.pp_count.specs.Seeing.{HoldsFilters, seen_samples}

@@ -1,7 +1,7 @@
 -- The nodes of a call tree with their links, as the code holds them. Of it, public clauses cite `node_by` and
 -- `nodes_by`.
 use Rattle.std.specs.Prelude.{◌≡◌, ℕ, ◌<◌, List, length, map, None, Option, slice_index_or}
-use Rattle.pp_grain.specs.declared.key.Key.{Key}
+use Rattle.pp_grain.specs.Words.{Key}
 use Rattle.pp_count.specs.Table.{no_key}
 use Rattle.pp_calltree.specs.declared.tree.PathNode.{PathNode}
 use Rattle.pp_calltree.specs.declared.tree.NumberedNode.{NumberedNode}

@@ -2,8 +2,8 @@
 use Rattle.std.specs.Prelude.{◌≡◌, ℕ, ◌+◌, ◌≤◌, nat_abs, nat_lt, Bool, false, List, [], ◌∷◌, ◌++◌, length, drop, map, All, Option, Some, None, if◌then◌else◌}
 use Rattle.std.specs.List.{sum_by}
 use Rattle.std.specs.Option.{option_map_or}
-use Rattle.pp_model.specs.declared.profile.Profile.{Profile}
-use Rattle.pp_grain.specs.Keys.{IsKeyOf}
+use Rattle.pp_model.specs.Words.{Profile}
+use Rattle.pp_grain.specs.Words.{IsKeyOf}
 use Rattle.pp_count.specs.Ranks.{is_heavy}
 use Rattle.pp_calltree.specs.declared.tree.PathNode.{PathNode}
 use Rattle.pp_calltree.specs.CallTree.{TreeRow}

@@ -1,14 +1,9 @@
 -- The text of a call tree: the lines of its head, and a row for each node that is shown.
 use Rattle.std.specs.Prelude.{ℕ, ◌-◌, ℤ, pos, ◌+ℤ◌, List, [], ◌∷◌, ◌++◌, length, codes, Option}
 use Rattle.std.specs.List.{repeat}
-use Rattle.pp_model.specs.declared.config.Config.{Config}
-use Rattle.pp_model.specs.declared.profile.Profile.{Profile}
-use Rattle.pp_model.specs.Finders.{Finders}
-use Rattle.pp_model.specs.FrameTexts.{Written}
-use Rattle.pp_units.specs.Head.{Facts, facts_text}
-use Rattle.pp_units.specs.Rows.{columns_text, name_end, showing_line, dropped_line, dropped_nodes, heading}
-use Rattle.pp_units.specs.Shown.{Shown}
-use Rattle.pp_grain.specs.Naming.{name_text}
+use Rattle.pp_model.specs.Words.{Config, Profile, Finders, Written}
+use Rattle.pp_units.specs.Words.{Facts, facts_text, columns_text, name_end, showing_line, dropped_line, dropped_nodes, heading, Shown}
+use Rattle.pp_grain.specs.Words.{name_text}
 use Rattle.pp_calltree.specs.CallTree.{TreeRow, tree_nodes, shown_nodes}
 
 -- the name of a node, behind two spaces for each key above its own

@@ -1,11 +1,8 @@
 -- The walk of a call tree: which nodes the first child and the next sibling lead to.
 use Rattle.std.specs.Prelude.{◌≡◌, ℕ, zero, suc, ◌+◌, List, [], ◌∷◌, Option, Some, None, option_map}
 use Rattle.std.specs.List.{slice_get}
-use Rattle.pp_model.specs.declared.config.Config.{Config}
-use Rattle.pp_model.specs.declared.profile.Profile.{Profile}
-use Rattle.pp_model.specs.Finders.{Finders}
-use Rattle.pp_model.specs.FrameTexts.{Written}
-use Rattle.pp_grain.specs.Keys.{key_cmp}
+use Rattle.pp_model.specs.Words.{Config, Profile, Finders, Written}
+use Rattle.pp_grain.specs.Words.{key_cmp}
 use Rattle.pp_count.specs.Sums.{Seen}
 use Rattle.pp_calltree.specs.declared.tree.PathNode.{PathNode}
 use Rattle.pp_calltree.specs.CallTree.{TreeRow, all_lengths, under, siblings, tree_row, path_samples}

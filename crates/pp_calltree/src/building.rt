@@ -2,10 +2,7 @@
 ghost use Rattle.std.specs.Prelude.{◌≡◌, ℕ, List as Seq, length, map, Option, IfOk};
 ghost use Rattle.std.specs.List.Sorted.{IsPermutation};
 ghost use Rattle.std.proofs.Props.{props};
-ghost use Rattle.pp_model.specs.declared.config.Config.{Config as Options};
-ghost use Rattle.pp_model.specs.declared.loaded.Loaded.{Loaded as Read};
-ghost use Rattle.pp_model.specs.declared.verdicts.Verdicts.{Verdicts as Found};
-ghost use Rattle.pp_model.specs.Finders.{Finders};
+ghost use Rattle.pp_model.specs.Words.{Config as Options, Loaded as Read, Verdicts as Found, Finders};
 ghost use Rattle.pp_count.specs.Seeing.{HoldsFilters};
 ghost use Rattle.pp_count.specs.Scope.{samples_in_scope};
 ghost use Rattle.pp_count.specs.Counts.{written_names};

@@ -1,8 +1,8 @@
 //! The nodes of a call tree, laid out parents before children.
 ghost use Rattle.std.specs.Prelude.{◌≡◌, ◌≢◌, ◌+◌, ◌<◌, ◌^◌, [], ◌∷◌, ◌++◌, nat_abs, map, All, AllPairs, IfOk};
 ghost use Rattle.std.specs.List.{sum_by};
-ghost use Rattle.pp_model.specs.Rules.{IsCompact};
-ghost use Rattle.pp_grain.specs.Keys.{IsKeyOf, key_cmp};
+ghost use Rattle.pp_model.specs.Words.{IsCompact};
+ghost use Rattle.pp_grain.specs.Words.{IsKeyOf, key_cmp};
 ghost use Rattle.pp_count.specs.Sums.{absolute};
 ghost use Rattle.pp_calltree.specs.Branches.{branch_samples};
 ghost use Rattle.pp_calltree.specs.CallTree.{all_lengths, any_row, tree_rows};

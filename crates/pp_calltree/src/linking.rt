@@ -1,6 +1,6 @@
 //! The links of the nodes, from how deep these stand.
 ghost use Rattle.std.specs.Prelude.{◌≡◌, ◌<◌, ◌+◌, ◌==◌, ℕ, nat_lt, List as Seq, Some, None, length, map, slice_index_or, IfOk, if◌then◌else◌};
-ghost use Rattle.pp_grain.specs.declared.key.Key.{Key};
+ghost use Rattle.pp_grain.specs.Words.{Key};
 ghost use Rattle.pp_calltree.specs.Tree.{first_child};
 ghost use Rattle.pp_calltree.specs.Links.{nodes_by, AreNexts, AreParents};
 

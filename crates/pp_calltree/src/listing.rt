@@ -1,10 +1,8 @@
 //! The paths of a call tree that samples end at, without its nodes.
 ghost use Rattle.std.specs.Prelude.{◌≡◌, ◌≢◌, ◌++◌, ℕ, ◌+◌, ◌<◌, ◌^◌, List as Seq, length, map, All, AllPairs, IfOk};
 ghost use Rattle.std.specs.List.{filter};
-ghost use Rattle.pp_model.specs.declared.profile.Profile.{Profile as Tables};
-ghost use Rattle.pp_model.specs.Rules.{IsCompact};
-ghost use Rattle.pp_grain.specs.declared.key.Key.{Key};
-ghost use Rattle.pp_grain.specs.Keys.{IsKeyOf, key_cmp};
+ghost use Rattle.pp_model.specs.Words.{Profile as Tables, IsCompact};
+ghost use Rattle.pp_grain.specs.Words.{Key, IsKeyOf, key_cmp};
 ghost use Rattle.pp_count.specs.Sums.{absolute};
 ghost use Rattle.pp_calltree.specs.Branches.{branch_samples};
 ghost use Rattle.pp_calltree.specs.CallPaths.{all_paths, has_sum, path_written, HasKeysOf};

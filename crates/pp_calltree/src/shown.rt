@@ -1,6 +1,6 @@
 //! The nodes that are shown.
 ghost use Rattle.std.specs.Prelude.{◌≡◌, ◌<◌, Some, length, slice_get, List as Seq, IfOk};
-ghost use Rattle.pp_grain.specs.declared.key.Key.{Key};
+ghost use Rattle.pp_grain.specs.Words.{Key};
 ghost use Rattle.pp_calltree.specs.Links.{nodes_by};
 ghost use Rattle.pp_calltree.specs.Shown.{is_cut, AreShown};
 

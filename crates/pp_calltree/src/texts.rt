@@ -1,6 +1,6 @@
 //! The texts of keys, by key number.
 ghost use Rattle.std.specs.Prelude.{All};
-ghost use Rattle.pp_grain.specs.Keys.{IsKeyOf};
+ghost use Rattle.pp_grain.specs.Words.{IsKeyOf};
 
 use pp_grain::{KeyTexts, Names, texts_of};
 use pp_model::Profile;

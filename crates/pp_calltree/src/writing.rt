@@ -1,13 +1,9 @@
 //! The text of a call tree.
 ghost use Rattle.std.specs.Prelude.{◌≡◌, ◌++◌, ◌<◌, ◌^◌, ℕ, pos, codes, map, All, Option, IfOk, OnOk, OnErr};
 ghost use Rattle.std.specs.List.{repeat};
-ghost use Rattle.pp_model.specs.declared.profile.Profile.{Profile as Tables};
-ghost use Rattle.pp_model.specs.declared.verdicts.Verdicts.{Verdicts};
-ghost use Rattle.pp_model.specs.Finders.{Finders};
-ghost use Rattle.pp_units.specs.Head.{facts};
-ghost use Rattle.pp_units.specs.Rows.{showing_line, dropped_line, dropped_nodes, name_end};
-ghost use Rattle.pp_units.specs.Shown.{shown};
-ghost use Rattle.pp_grain.specs.Keys.{IsKeyOf};
+ghost use Rattle.pp_model.specs.Words.{Profile as Tables, Verdicts, Finders};
+ghost use Rattle.pp_units.specs.Words.{facts, showing_line, dropped_line, dropped_nodes, name_end, shown};
+ghost use Rattle.pp_grain.specs.Words.{IsKeyOf};
 ghost use Rattle.pp_count.specs.Seeing.{HoldsFilters};
 ghost use Rattle.pp_calltree.specs.Laid.{node_row};
 ghost use Rattle.pp_calltree.specs.Shown.{flat_sizes};

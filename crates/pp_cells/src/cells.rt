@@ -1,8 +1,7 @@
 //! The cells of tables for other programs: each ends with a tab, and the last of a row with a line feed.
 ghost use Rattle.std.specs.Prelude.{◌≡◌, ◌++◌, IfOk};
 ghost use Rattle.std.specs.Fmt.{signed_decimal};
-ghost use Rattle.pp_grain.specs.Keys.{IsKeyOf, key_written};
-ghost use Rattle.pp_grain.specs.Naming.{name_text};
+ghost use Rattle.pp_grain.specs.Words.{IsKeyOf, key_written, name_text};
 ghost use Rattle.pp_cells.specs.Cells.{behind_slash, cell, cell_byte, cell_text, last_cell};
 
 use itoa::Buffer;

@@ -1,8 +1,7 @@
 -- There is no fault exactly where no rule fails.
 use Rattle.std.proofs.Common.{◌≡◌, List, [], ◌∷◌, ℕ, refl}
 use Rattle.std.specs.Prelude.{Option, Some, None, ⊤}
-use Rattle.pp_model.specs.declared.profile.Profile.{Profile}
-use Rattle.pp_model.specs.Rules.{NoRuleFails}
+use Rattle.pp_model.specs.Words.{Profile, NoRuleFails}
 use Rattle.pp_check.specs.declared.fault.Table.{Table}
 use Rattle.pp_check.specs.declared.fault.TableFault.{TableFault}
 use Rattle.pp_check.specs.Finds.{rule_fault, first_fault_of}

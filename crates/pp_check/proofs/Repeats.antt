@@ -8,7 +8,7 @@ use Rattle.std.proofs.lemmas.List.FromFn.{get_or-range_with_len, length-range_wi
 use Rattle.std.proofs.lemmas.List.Sums.{position_or_len_is}
 use Rattle.std.proofs.lemmas.Bool.{lt-ltb, le-ltb}
 use Rattle.std.proofs.Math.Bool.{or-false}
-use Rattle.pp_model.specs.Rules.{stands_in, first_repeated}
+use Rattle.pp_model.specs.Words.{stands_in, first_repeated}
 
 -- the id at the index stands earlier
 abbrev pub repeats : List ℕ → ℕ → Bool

@@ -3,7 +3,7 @@ use Rattle.std.proofs.Common.{◌≡◌, ◌+◌, ◌<◌, ℕ, List, Bool, true
 use Rattle.std.specs.Prelude.{◌==◌, ◌||◌, Some, None, not, slice_index}
 use Rattle.std.proofs.lemmas.Bool.{not-true, not-false}
 use Rattle.std.proofs.lemmas.List.{get_or-map}
-use Rattle.pp_model.specs.Rules.{first_repeated, stands_in}
+use Rattle.pp_model.specs.Words.{first_repeated, stands_in}
 use Rattle.pp_check.specs.declared.known.IdSet.{IdSet}
 use Rattle.pp_check.specs.Known.{holds, Knows, Inserts}
 use Rattle.pp_check.proofs.Repeats.{repeats, NoneBelow, repeats_first, repeats_nowhere, stands_in_more}

@@ -3,9 +3,8 @@ use Rattle.std.proofs.Common.{◌≡◌, true, false, true≢false, [], ◌∷�
 use Rattle.std.specs.Prelude.{Option, Some, None, Result, Ok, Err, IfOk}
 use Rattle.std.specs.List.{list_all}
 use Rattle.std.proofs.lemmas.Option.{none-some}
-use Rattle.pp_base.specs.declared.memory.Memory.{Memory}
-use Rattle.pp_model.specs.declared.profile.Profile.{Profile}
-use Rattle.pp_model.specs.Rules.{label_has_texts, location_fault}
+use Rattle.pp_base.specs.Words.{Memory}
+use Rattle.pp_model.specs.Words.{Profile, label_has_texts, location_fault}
 use Rattle.pp_check.specs.declared.fault.Table.TheVariants.{Locations, Samples}
 use Rattle.pp_check.specs.declared.fault.TableFault.{TableFault}
 use Rattle.pp_check.specs.Finds.{rule_fault, first_fault_of}

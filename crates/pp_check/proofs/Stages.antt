@@ -1,7 +1,7 @@
 -- The rules in stages: the first stage with a fault decides.
 use Rattle.std.proofs.Common.{◌≡◌, ◌++◌, List, sym, subst, ◌∙◌}
 use Rattle.std.specs.Prelude.{Option, Some, None, Result, Ok, Err, IsErrAnd}
-use Rattle.pp_model.specs.declared.profile.Profile.{Profile}
+use Rattle.pp_model.specs.Words.{Profile}
 use Rattle.pp_check.specs.declared.fault.TableFault.{TableFault}
 use Rattle.pp_check.specs.declared.fault.CheckRefusal.{CheckRefusal}
 use Rattle.pp_check.specs.declared.fault.CheckRefusal.TheVariants.{Fault, Memory}

@@ -3,8 +3,7 @@ use Rattle.std.proofs.Common.{◌≡◌, ◌+◌, Bool, true, false, true≢fals
 use Rattle.std.specs.Prelude.{None, Some, ◌==◌}
 use Rattle.std.specs.List.{list_all, position_or_len}
 use Rattle.std.proofs.lemmas.Bool.{le-ltb}
-use Rattle.pp_model.specs.declared.profile.Profile.{Profile}
-use Rattle.pp_model.specs.Rules.{first_failing, stands_in, location_ids, sample_fault, value_fault}
+use Rattle.pp_model.specs.Words.{Profile, first_failing, stands_in, location_ids, sample_fault, value_fault}
 use Rattle.pp_check.specs.Whole.{is_whole}
 
 -- a test that all items pass

@@ -1,6 +1,6 @@
 -- What the check of a profile answers.
 use Rattle.std.specs.Prelude.{◌≡◌, ⊤, Some, None, Result, Ok, Err}
-use Rattle.pp_model.specs.declared.profile.Profile.{Profile}
+use Rattle.pp_model.specs.Words.{Profile}
 use Rattle.pp_check.specs.declared.fault.CheckRefusal.{CheckRefusal}
 use Rattle.pp_check.specs.declared.fault.CheckRefusal.TheVariants.{Fault, Memory}
 use Rattle.pp_check.specs.FirstFault.{first_fault}

@@ -1,8 +1,7 @@
 -- The first table rule that fails: the least rule, then the first of its tables, then the least index.
 use Rattle.std.specs.Prelude.{ℕ, ◌+◌, ◌<◌, ◌^◌, nat_lt, length, List, [], ◌∷◌, ◌++◌, Option}
-use Rattle.pp_model.specs.declared.profile.Profile.{Profile}
+use Rattle.pp_model.specs.Words.{Profile, first_failing}
 use Rattle.pp_model.specs.Rules as rules
-use Rattle.pp_model.specs.Rules.{first_failing}
 use Rattle.pp_check.specs.declared.fault.Table.{Table}
 use Rattle.pp_check.specs.declared.fault.Table.TheVariants.{Texts, Header, Comments, SampleTypes, Samples, Mappings, Functions, Locations}
 use Rattle.pp_check.specs.declared.fault.TableFault.{TableFault}

@@ -1,7 +1,7 @@
 -- The ids of a table, as a set.
 use Rattle.std.specs.Prelude.{◌≡◌, ℕ, Bool, List, ◌==◌, ◌&&◌, ◌||◌, nat_eq, nat_lt, nat_le}
 use Rattle.std.specs.HashSet.{contains}
-use Rattle.pp_model.specs.Rules.{stands_in}
+use Rattle.pp_model.specs.Words.{stands_in}
 use Rattle.pp_check.specs.declared.known.IdSet.{IdSet}
 
 -- the id is one of these

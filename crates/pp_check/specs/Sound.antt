@@ -1,9 +1,7 @@
 -- Samples that break no rule, as they are asked ahead of the others. No public clause cites these.
 use Rattle.std.specs.Prelude.{◌≡◌, Bool, true, ◌&&◌, None, List}
 use Rattle.std.specs.List.{list_all}
-use Rattle.pp_model.specs.declared.profile.Sample.{Sample}
-use Rattle.pp_model.specs.declared.profile.Profile.{Profile}
-use Rattle.pp_model.specs.Rules.{label_has_texts, sample_text_fault, sample_fault, value_fault}
+use Rattle.pp_model.specs.Words.{Sample, Profile, label_has_texts, sample_text_fault, sample_fault, value_fault}
 use Rattle.pp_check.specs.Finds.{first_fault_of}
 use Rattle.pp_check.specs.FirstFault.{location_faults}
 use Rattle.pp_check.specs.Whole.{is_whole}

@@ -1,9 +1,7 @@
 -- Samples that keep the rules on their locations and values.
 use Rattle.std.specs.Prelude.{Bool, ◌==◌, ◌&&◌, length}
 use Rattle.std.specs.List.{list_all}
-use Rattle.pp_model.specs.declared.profile.Sample.{Sample}
-use Rattle.pp_model.specs.declared.profile.Profile.{Profile}
-use Rattle.pp_model.specs.Rules.{stands_in, location_ids}
+use Rattle.pp_model.specs.Words.{Sample, Profile, stands_in, location_ids}
 
 -- the sample's locations are there, and it has one value per sample type
 abbrev pub is_whole : Profile → Sample → Bool

@@ -1,7 +1,7 @@
 //! Asking the samples of a profile, which can be cut anywhere.
 ghost use Rattle.std.specs.Prelude.{◌≡◌, false, IfOk};
 ghost use Rattle.std.specs.List.{list_all};
-ghost use Rattle.pp_model.specs.Rules.{location_ids};
+ghost use Rattle.pp_model.specs.Words.{location_ids};
 ghost use Rattle.pp_check.specs.Known.{Knows};
 ghost use Rattle.pp_check.specs.Sound.{is_sound};
 

@@ -5,7 +5,7 @@ ghost use Rattle.pp_check.specs.Finds.{first_fault_of, AnswersFault, FindsFault}
 ghost use Rattle.pp_check.specs.Checks.{Checks};
 ghost use Rattle.pp_check.specs.Known.{Knows};
 ghost use Rattle.pp_check.specs.Sound.{HasSoundSamples};
-ghost use Rattle.pp_model.specs.Rules.{mapping_ids, function_ids, location_ids};
+ghost use Rattle.pp_model.specs.Words.{mapping_ids, function_ids, location_ids};
 
 use crate::fault::{CheckRefusal, Table, TableFault, refuse};
 use crate::ids::known_ids;

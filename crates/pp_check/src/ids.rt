@@ -1,6 +1,6 @@
 // Rules 4 to 9: the ids of mappings, functions and locations are not 0, and distinct.
 ghost use Rattle.std.specs.Prelude.{◌≡◌, ◌<◌, ◌^◌, [], length, map, nat_lt, IfOk, IfSome, IfNone};
-ghost use Rattle.pp_model.specs.Rules.{first_failing, first_repeated};
+ghost use Rattle.pp_model.specs.Words.{first_failing, first_repeated};
 ghost use Rattle.pp_check.specs.Known.{Knows};
 ghost use Rattle.pp_check.specs.FirstFault.{id_faults};
 ghost use Rattle.pp_check.specs.Finds.{first_fault_of, AnswersFault};

@@ -1,6 +1,6 @@
 //! The table rules, of which lanes ask those of samples.
 ghost use Rattle.std.specs.Prelude.{IfOk};
-ghost use Rattle.pp_model.specs.Rules.{location_ids};
+ghost use Rattle.pp_model.specs.Words.{location_ids};
 ghost use Rattle.pp_check.specs.Checks.{Checks};
 ghost use Rattle.pp_check.specs.FirstFault.{IsIndexed};
 ghost use Rattle.pp_check.specs.Known.{Knows};

@@ -1,7 +1,6 @@
 //! What holds of any profile. This function does nothing: its clause is the law.
 ghost use Rattle.std.specs.Prelude.{◌≡◌, ◌↔◌, None};
-ghost use Rattle.pp_model.specs.declared.profile.Profile.{Profile};
-ghost use Rattle.pp_model.specs.Rules.{NoRuleFails};
+ghost use Rattle.pp_model.specs.Words.{Profile, NoRuleFails};
 ghost use Rattle.pp_check.specs.FirstFault.{first_fault};
 
 /// A profile has no first fault exactly where no table rule fails.

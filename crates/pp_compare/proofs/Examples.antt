@@ -3,7 +3,7 @@ use Rattle.std.proofs.Common.{◌≡◌, pos, negsuc, [], ◌++◌, None, refl}
 use Rattle.std.specs.Prelude.{codes}
 use Rattle.std.specs.Fmt.{digits}
 use Rattle.pp_model.specs.declared.presentation.Sort.TheVariants.{Cum}
-use Rattle.pp_units.specs.Numbers.{number_text, value_text, percent_text}
+use Rattle.pp_units.specs.Words.{number_text, value_text, percent_text}
 use Rattle.pp_compare.specs.Changes.{changes_heading, change_line}
 use Rattle.pp_compare.specs.Compare.{difference_of, compare_heading, difference_line}
 

@@ -4,15 +4,9 @@ use Rattle.std.specs.List.{flat_map}
 use Rattle.std.proofs.lemmas.List.{get_or-map, length-map}
 use Rattle.std.proofs.lemmas.List.Elements.{All-head, All-tail}
 use Rattle.std.proofs.Math.ListN as math
-use Rattle.pp_model.specs.declared.config.Config.{Config}
-use Rattle.pp_model.specs.declared.presentation.Sort.{Sort}
+use Rattle.pp_model.specs.Words.{Config, Sort, Profile, Finders, Written}
 use Rattle.pp_model.specs.declared.presentation.Sort.TheVariants as sorts
-use Rattle.pp_model.specs.declared.profile.Profile.{Profile}
-use Rattle.pp_model.specs.Finders.{Finders}
-use Rattle.pp_model.specs.FrameTexts.{Written}
-use Rattle.pp_grain.specs.declared.key.Key.{Key}
-use Rattle.pp_grain.specs.Keys.{key_cmp, key_written}
-use Rattle.pp_grain.specs.Naming.{name_text}
+use Rattle.pp_grain.specs.Words.{Key, key_cmp, key_written, name_text}
 use Rattle.pp_count.specs.declared.sums.Sums.{Sums}
 use Rattle.pp_count.specs.Counted.{report_samples}
 use Rattle.pp_count.specs.Counts.{AreSumsOf}

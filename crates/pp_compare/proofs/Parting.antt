@@ -5,12 +5,7 @@ use Rattle.std.specs.Option.{is_some}
 use Rattle.std.specs.Ordering.{int_eq}
 use Rattle.std.proofs.lemmas.Int.{ints}
 use Rattle.std.proofs.lemmas.List.Sums.{sum_by-cons}
-use Rattle.pp_model.specs.declared.config.Config.{Config}
-use Rattle.pp_model.specs.declared.frame.Frame.{Frame}
-use Rattle.pp_model.specs.declared.profile.Sample.{Sample}
-use Rattle.pp_model.specs.declared.profile.Profile.{Profile}
-use Rattle.pp_model.specs.Finders.{Finders}
-use Rattle.pp_model.specs.FrameTexts.{Written}
+use Rattle.pp_model.specs.Words.{Config, Frame, Sample, Profile, Finders, Written}
 use Rattle.pp_count.specs.Column.{selected}
 use Rattle.pp_count.specs.Counts.{filtered_samples}
 use Rattle.pp_count.specs.Seeing.{filtered_stack, seen, seen_with, seen_samples}

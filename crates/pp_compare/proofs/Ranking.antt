@@ -2,13 +2,8 @@
 use Rattle.std.proofs.Common.{◌≡◌, ℕ, ◌<◌, ◌^◌, ℤ, List, ◌++◌, length, Option, sym, ap, ◌∙◌, codes}
 use Rattle.std.specs.List.{flat_map}
 use Rattle.std.proofs.lemmas.List.{length-map}
-use Rattle.pp_model.specs.declared.config.Config.{Config}
-use Rattle.pp_model.specs.declared.loaded.Loaded.{Loaded}
-use Rattle.pp_model.specs.declared.verdicts.Verdicts.{Verdicts}
-use Rattle.pp_model.specs.Finders.{Finders}
-use Rattle.pp_model.specs.FrameTexts.{Written}
-use Rattle.pp_units.specs.Head.{Facts, facts_text}
-use Rattle.pp_units.specs.Rows.{dropped_line, limited_line}
+use Rattle.pp_model.specs.Words.{Config, Loaded, Verdicts, Finders, Written}
+use Rattle.pp_units.specs.Words.{Facts, facts_text, dropped_line, limited_line}
 use Rattle.pp_units.specs.Rows as lines
 use Rattle.pp_count.specs.declared.counted.Counted.{Counted}
 use Rattle.pp_count.specs.Counted.{CanCount, IsCountedOf}

@@ -3,9 +3,7 @@
 use Rattle.std.specs.Prelude.{ℕ, List, ◌++◌, codes, Option}
 use Rattle.std.specs.Fmt.{signed_decimal}
 use Rattle.std.specs.List.{flat_map}
-use Rattle.pp_model.specs.declared.config.Config.{Config}
-use Rattle.pp_model.specs.declared.profile.Profile.{Profile}
-use Rattle.pp_model.specs.Finders.{Finders}
+use Rattle.pp_model.specs.Words.{Config, Profile, Finders}
 use Rattle.pp_graph.specs.Trim.{first_report_keys}
 use Rattle.pp_cells.specs.Cells.{behind_slash, cell, cell_text, last_cell}
 use Rattle.pp_compare.specs.declared.difference.Difference.{Difference}

@@ -3,20 +3,11 @@
 use Rattle.std.specs.Prelude.{ℕ, ℤ, pos, neg_ℤ, ◌+ℤ◌, nat_abs, not, ◌&&◌, List, ◌++◌, codes, length, Option, if◌then◌else◌}
 use Rattle.std.specs.List.{flat_map}
 use Rattle.std.specs.Ordering.{int_eq}
-use Rattle.pp_model.specs.declared.config.Config.{Config}
-use Rattle.pp_model.specs.declared.presentation.Sort.{Sort}
+use Rattle.pp_model.specs.Words.{Config, Sort, Profile, Sample, Finders, Written}
 use Rattle.pp_model.specs.declared.presentation.Sort.TheVariants as sorts
-use Rattle.pp_model.specs.declared.profile.Profile.{Profile}
-use Rattle.pp_model.specs.declared.profile.Sample.{Sample}
-use Rattle.pp_model.specs.Finders.{Finders}
-use Rattle.pp_model.specs.FrameTexts.{Written}
-use Rattle.pp_units.specs.Head.{Facts, facts_text}
-use Rattle.pp_units.specs.Numbers.{percent_text, right_text}
-use Rattle.pp_units.specs.Rows.{value_column, name_end, dropped_line, limited_line}
+use Rattle.pp_units.specs.Words.{Facts, facts_text, percent_text, right_text, value_column, name_end, dropped_line, limited_line, Shown}
 use Rattle.pp_units.specs.Rows as lines
-use Rattle.pp_units.specs.Shown.{Shown}
-use Rattle.pp_grain.specs.Keys.{key_cmp}
-use Rattle.pp_grain.specs.Naming.{name_text}
+use Rattle.pp_grain.specs.Words.{key_cmp, name_text}
 use Rattle.pp_count.specs.Counted.{report_samples}
 use Rattle.pp_count.specs.Counts.{filtered_samples}
 use Rattle.pp_count.specs.Sums.{Seen, flat, cum}

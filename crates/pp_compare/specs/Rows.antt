@@ -2,13 +2,11 @@
 use Rattle.std.specs.Prelude.{ℕ, ℤ, neg_ℤ, ◌-ℤ◌, List, ◌++◌, codes, length}
 use Rattle.std.specs.Int.{w64, int_wrap}
 use Rattle.std.specs.List.{flat_map}
-use Rattle.pp_model.specs.declared.presentation.Sort.{Sort}
+use Rattle.pp_model.specs.Words.{Sort, Profile}
 use Rattle.pp_model.specs.declared.presentation.Sort.TheVariants as sorts
-use Rattle.pp_model.specs.declared.profile.Profile.{Profile}
-use Rattle.pp_units.specs.Head.{Facts, facts_text}
-use Rattle.pp_units.specs.Rows.{dropped_line, limited_line}
+use Rattle.pp_units.specs.Words.{Facts, facts_text, dropped_line, limited_line}
 use Rattle.pp_units.specs.Rows as lines
-use Rattle.pp_grain.specs.Naming.{name_text}
+use Rattle.pp_grain.specs.Words.{name_text}
 use Rattle.pp_count.specs.declared.sums.Sums.{Sums}
 use Rattle.pp_count.specs.Table.{written_key}
 use Rattle.pp_graph.specs.declared.ranking.Ranked.{Ranked}

@@ -1,8 +1,6 @@
 //! The columns of a row, and their heading.
 ghost use Rattle.std.specs.Prelude.{◌≡◌, ◌++◌, IfOk};
-ghost use Rattle.pp_units.specs.Numbers.{right_text};
-ghost use Rattle.pp_units.specs.Rows.{name_end};
-ghost use Rattle.pp_units.specs.Shown.{shown};
+ghost use Rattle.pp_units.specs.Words.{right_text, name_end, shown};
 ghost use Rattle.pp_compare.specs.Compare.{change_text, spaced_value, difference_columns, figure_name, compare_heading};
 
 use crate::difference::Difference;

@@ -1,10 +1,8 @@
 //! The whole report.
 ghost use Rattle.std.specs.Prelude.{◌≡◌, ◌++◌, ◌<◌, ℕ, All, IfOk, OnOk, OnErr, length};
-ghost use Rattle.pp_model.specs.Finders.{Finders};
-ghost use Rattle.pp_units.specs.Head.{facts};
-ghost use Rattle.pp_units.specs.Rows.{dropped_line, dropped_nodes, limited_line};
-ghost use Rattle.pp_units.specs.Shown.{shown};
-ghost use Rattle.pp_grain.specs.Keys.{IsKeyOf};
+ghost use Rattle.pp_model.specs.Words.{Finders};
+ghost use Rattle.pp_units.specs.Words.{facts, dropped_line, dropped_nodes, limited_line, shown};
+ghost use Rattle.pp_grain.specs.Words.{IsKeyOf};
 ghost use Rattle.pp_count.specs.Counted.{FitSums};
 ghost use Rattle.pp_count.specs.Seeing.{HoldsFilters};
 ghost use Rattle.pp_graph.specs.Trimmed.{IsRankedOf};

@@ -1,10 +1,8 @@
 //! The rows of the table.
 ghost use Rattle.std.specs.Prelude.{◌≡◌, ◌++◌, ◌<◌, length, All, IfOk};
 ghost use Rattle.std.specs.List.{flat_map};
-ghost use Rattle.pp_units.specs.Rows.{name_end};
-ghost use Rattle.pp_units.specs.Shown.{shown};
-ghost use Rattle.pp_grain.specs.Keys.{IsKeyOf, key_written};
-ghost use Rattle.pp_grain.specs.Naming.{name_text};
+ghost use Rattle.pp_units.specs.Words.{name_end, shown};
+ghost use Rattle.pp_grain.specs.Words.{IsKeyOf, key_written, name_text};
 ghost use Rattle.pp_count.specs.Counted.{FitSums};
 ghost use Rattle.pp_count.specs.Base.{FitBase};
 ghost use Rattle.pp_graph.specs.Ranks.{sum_of_name};

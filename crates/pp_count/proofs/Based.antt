@@ -10,19 +10,8 @@ use Rattle.std.proofs.lemmas.List.Elements.{All-filter, filter-append, filter_ma
 use Rattle.std.proofs.lemmas.List.Sums.{sum_by-cons, sum_by-append, sum_by-take-drop}
 use Rattle.std.proofs.lemmas.Option.{slice_get-get_or}
 use Rattle.pp_base.proofs.Sums.{triangle}
-use Rattle.pp_model.specs.declared.config.Config.{Config}
-use Rattle.pp_model.specs.declared.loaded.Loaded.{Loaded}
-use Rattle.pp_model.specs.declared.profile.Sample.{Sample}
-use Rattle.pp_model.specs.declared.profile.Profile.{Profile}
-use Rattle.pp_model.specs.declared.verdicts.Verdicts.{Verdicts}
-use Rattle.pp_model.specs.Finders.{Finders}
-use Rattle.pp_model.specs.FrameTexts.{Written}
-use Rattle.pp_model.specs.Conditions.{IsColumnOf}
-use Rattle.pp_model.specs.Rules.{IsCompact}
-use Rattle.pp_model.specs.Sizes.{IsCountable}
-use Rattle.pp_model.specs.Values.{no_sample}
-use Rattle.pp_grain.specs.declared.key.Key.{Key}
-use Rattle.pp_grain.specs.Keys.{key_cmp, key_written, IsKeyOf}
+use Rattle.pp_model.specs.Words.{Config, Loaded, Sample, Profile, Verdicts, Finders, Written, IsColumnOf, IsCompact, IsCountable, no_sample}
+use Rattle.pp_grain.specs.Words.{Key, key_cmp, key_written, IsKeyOf}
 use Rattle.pp_count.specs.declared.base.BaseSums.{BaseSums}
 use Rattle.pp_count.specs.declared.sums.Sums.{Sums}
 use Rattle.pp_count.specs.declared.tally.Tally.{Tally}

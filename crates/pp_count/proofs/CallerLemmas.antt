@@ -5,22 +5,13 @@ use Rattle.std.specs.List.{cons_option, sum_by}
 use Rattle.std.specs.Ordering.{int_eq}
 use Rattle.std.proofs.lemmas.List.Elements.{filter-append}
 use Rattle.std.proofs.lemmas.List.Sums.{sum_by-append}
-use Rattle.pp_model.specs.declared.config.Config.{Config}
-use Rattle.pp_model.specs.declared.loaded.Loaded.{Loaded}
-use Rattle.pp_model.specs.declared.verdicts.Verdicts.{Verdicts}
-use Rattle.pp_grain.specs.declared.key.Key.{Key}
+use Rattle.pp_model.specs.Words.{Config, Loaded, Verdicts, Frame, Sample, Profile, Grouping, Finders, Written, written}
+use Rattle.pp_grain.specs.Words.{Key, key_texts}
 use Rattle.pp_count.specs.declared.part.KeySum.{KeySum}
 use Rattle.pp_count.specs.declared.part.Part.{Part}
 use Rattle.pp_count.specs.Column.{selected}
 use Rattle.pp_count.specs.Joined.{AreWithin, AreConsecutive, CanJoin, samples_of_ranges, all_sums}
 use Rattle.pp_count.specs.Parts.{sums_of}
-use Rattle.pp_model.specs.declared.frame.Frame.{Frame}
-use Rattle.pp_model.specs.declared.profile.Sample.{Sample}
-use Rattle.pp_model.specs.declared.profile.Profile.{Profile}
-use Rattle.pp_model.specs.declared.grouping.Grouping.{Grouping}
-use Rattle.pp_model.specs.Finders.{Finders}
-use Rattle.pp_model.specs.FrameTexts.{Written, written}
-use Rattle.pp_grain.specs.Keys.{key_texts}
 use Rattle.pp_count.specs.Sums.{Seen, weighed, renamed}
 use Rattle.pp_count.specs.Seeing.{counted_frames, framed_with, framed_samples, filtered_stack, key_of_frame, seen_with, seen_samples, absolute_all}
 use Rattle.pp_count.specs.Counted.{report_samples, report_frames}

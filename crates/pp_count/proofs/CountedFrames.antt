@@ -3,8 +3,8 @@ use Rattle.std.proofs.Common.{◌≡◌, ℕ, zero, suc, ◌+◌, ◌<◌, ◌==
 use Rattle.std.specs.Option.{option_map_or}
 use Rattle.std.specs.List.{slice_get}
 use Rattle.std.proofs.lemmas.List.{get_or_default}
-use Rattle.pp_model.specs.declared.frame.Frame.{Frame}
-use Rattle.pp_grain.specs.Keys.{frame_counts}
+use Rattle.pp_model.specs.Words.{Frame}
+use Rattle.pp_grain.specs.Words.{frame_counts}
 use Rattle.pp_count.specs.Seeing.{counted_frames}
 
 -- the frames, with one in front of them where it counts

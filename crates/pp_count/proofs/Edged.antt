@@ -11,13 +11,8 @@ use Rattle.std.proofs.lemmas.List.FromFn.{map-range_with_len_more}
 use Rattle.std.proofs.lemmas.Nat.{div-mul-add, mod-mul-add, div-add-mod'}
 use Rattle.std.proofs.Math.Nat.{mod-lt, div-lt_iff_lt-mul}
 use Rattle.pp_base.proofs.Booleans.{same_bool}
-use Rattle.pp_model.specs.declared.config.Config.{Config}
-use Rattle.pp_model.specs.declared.loaded.Loaded.{Loaded}
-use Rattle.pp_model.specs.Finders.{Finders}
-use Rattle.pp_model.specs.FrameTexts.{Written}
-use Rattle.pp_model.specs.Rules.{IsCompact}
-use Rattle.pp_grain.specs.declared.key.Key.{Key}
-use Rattle.pp_grain.specs.Keys.{key_cmp, key_written}
+use Rattle.pp_model.specs.Words.{Config, Loaded, Finders, Written, IsCompact}
+use Rattle.pp_grain.specs.Words.{Key, key_cmp, key_written}
 use Rattle.pp_tags.proofs.AlikeLemmas.{list_any_alike}
 use Rattle.pp_count.specs.declared.part.KeySum.{KeySum}
 use Rattle.pp_count.specs.declared.edge.Edge.{Edge}

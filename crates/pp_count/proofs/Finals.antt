@@ -15,8 +15,7 @@ use Rattle.pp_count.specs.Parts.{AreKeySums, key_sum}
 use Rattle.pp_count.proofs.Renaming.{occurs_below}
 use Rattle.std.proofs.lemmas.List.Elements.{All-nil, All-cons, All-head, All-tail, All-take}
 use Rattle.std.proofs.lemmas.List.Sums.{sum_by-cons}
-use Rattle.pp_grain.specs.declared.key.Key.{Key}
-use Rattle.pp_grain.specs.Sight.{same_key, with_key}
+use Rattle.pp_grain.specs.Words.{Key, same_key, with_key}
 use Rattle.pp_grain.proofs.SightLemmas.{key_decides}
 use Rattle.pp_count.specs.declared.part.KeySum.{KeySum}
 use Rattle.pp_count.specs.declared.tally.Tally.{Tally}

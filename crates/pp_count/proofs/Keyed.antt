@@ -12,11 +12,8 @@ use Rattle.std.proofs.lemmas.List.Folds.{list_any-append}
 use Rattle.pp_base.proofs.Booleans.{same_bool}
 use Rattle.pp_base.proofs.Orders.{equal_is}
 use Rattle.pp_base.proofs.Sums.{same_sums}
-use Rattle.pp_model.specs.declared.profile.Profile.{Profile}
-use Rattle.pp_model.specs.FrameTexts.{Written}
-use Rattle.pp_model.specs.Rules.{IsCompact}
-use Rattle.pp_grain.specs.declared.key.Key.{Key}
-use Rattle.pp_grain.specs.Keys.{key_cmp, key_written, IsKeyOf}
+use Rattle.pp_model.specs.Words.{Profile, Written, IsCompact}
+use Rattle.pp_grain.specs.Words.{Key, key_cmp, key_written, IsKeyOf}
 use Rattle.pp_grain.proofs.CallerLemmas.{key_cmp_ties, key_cmp_total, same_keys}
 use Rattle.pp_count.specs.declared.part.KeySum.{KeySum}
 use Rattle.pp_count.specs.declared.sums.Sums.{Sums}

@@ -4,14 +4,8 @@ use Rattle.std.specs.List.{range_with_len}
 use Rattle.std.proofs.lemmas.Simd.{map-map}
 use Rattle.std.proofs.lemmas.List.{map-append, append-nil, drop_more, drop_all}
 use Rattle.std.proofs.lemmas.List.Elements.{All-append}
-use Rattle.pp_model.specs.declared.frame.Frame.{Frame}
-use Rattle.pp_model.specs.declared.profile.Line.{Line}
-use Rattle.pp_model.specs.declared.profile.Profile.{Profile}
-use Rattle.pp_model.specs.declared.grouping.Grouping.{Grouping}
-use Rattle.pp_model.specs.Frames.{rows, row_frame, frames_from, lines_at}
-use Rattle.pp_model.specs.FrameTexts.{Written, written}
-use Rattle.pp_grain.specs.declared.key.Key.{Key}
-use Rattle.pp_grain.specs.Keys.{key_texts}
+use Rattle.pp_model.specs.Words.{Frame, Line, Profile, Grouping, rows, row_frame, frames_from, lines_at, Written, written}
+use Rattle.pp_grain.specs.Words.{Key, key_texts}
 use Rattle.pp_count.specs.declared.table.KeyTable.{KeyTable}
 use Rattle.pp_count.specs.Table.{written_key, IsRow, IsKeyTable}
 use Rattle.pp_count.specs.Seeing.{counted_frames, key_of_frame, keys_of_stack}

@@ -7,16 +7,7 @@ use Rattle.std.proofs.lemmas.Bool.{false≢true}
 use Rattle.std.proofs.lemmas.List.{append-nil, drop_all}
 use Rattle.std.proofs.lemmas.List.Elements.{All-drop}
 use Rattle.std.proofs.lemmas.List.Folds.{list_any-append, list_any_none}
-use Rattle.pp_model.specs.declared.frame.Frame.{Frame}
-use Rattle.pp_model.specs.declared.profile.Sample.{Sample}
-use Rattle.pp_model.specs.declared.profile.Profile.{Profile}
-use Rattle.pp_model.specs.declared.filtering.Filtering.{Filtering}
-use Rattle.pp_model.specs.Conditions.{RefersTo}
-use Rattle.pp_model.specs.Finders.{Finder, Finders}
-use Rattle.pp_model.specs.Frames.{stack_of}
-use Rattle.pp_model.specs.FrameTexts.{written}
-use Rattle.pp_model.specs.Judged.{judged}
-use Rattle.pp_model.specs.Rules.{IsCompact}
+use Rattle.pp_model.specs.Words.{Frame, Sample, Profile, Filtering, RefersTo, Finder, Finders, stack_of, written, judged, IsCompact}
 use Rattle.pp_model.proofs.FrameLemmas.{frames_of_profile}
 use Rattle.pp_stack.specs.Filters.{AreVerdicts, finds_frame, is_prunable, load_pruned}
 use Rattle.pp_stack.specs.Runs.{pruned_frames, pruned_len}

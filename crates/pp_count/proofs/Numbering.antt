@@ -6,13 +6,8 @@ use Rattle.std.specs.List.{slice_get}
 use Rattle.std.proofs.lemmas.List.{append-nil, map-append, take_more, get_or_append_left}
 use Rattle.std.proofs.lemmas.List.Elements.{All-push, All-head, All-tail, All-weaker}
 use Rattle.std.proofs.lemmas.Option.{get_or_from_slice_get, slice_get_within}
-use Rattle.pp_model.specs.declared.grouping.Grain.{Grain}
-use Rattle.pp_model.specs.declared.frame.Frame.{Frame}
-use Rattle.pp_model.specs.declared.profile.Profile.{Profile}
-use Rattle.pp_model.specs.FrameTexts.{Written, written}
-use Rattle.pp_grain.specs.declared.key.Key.{Key}
-use Rattle.pp_grain.specs.Keys.{key_texts, key_written, IsKeyOf}
-use Rattle.pp_grain.specs.Sight.{with_key}
+use Rattle.pp_model.specs.Words.{Grain, Frame, Profile, Written, written}
+use Rattle.pp_grain.specs.Words.{Key, key_texts, key_written, IsKeyOf, with_key}
 use Rattle.pp_count.specs.Table.{no_key, written_key, IsNumbered, IsRow, Grown, frames_at}
 
 module _ (grain : Grain) (showcolumns : Bool) (p : Profile) where

@@ -7,11 +7,7 @@ use Rattle.std.proofs.Math.Seq.{take-add}
 use Rattle.std.proofs.lemmas.List.{map-append, length-take-le}
 use Rattle.std.proofs.lemmas.List.Elements.{filter-append, filter_map-append, All-append, All-from_get_or}
 use Rattle.std.proofs.lemmas.List.Sums.{sum_by-cons, sum_by-append, sum_by-take-le}
-use Rattle.pp_model.specs.declared.profile.Sample.{Sample}
-use Rattle.pp_model.specs.Conditions.{RefersTo, IsSampleOf}
-use Rattle.pp_model.specs.declared.profile.Profile.{Profile}
-use Rattle.pp_model.specs.Rules.{NoRuleFails}
-use Rattle.pp_model.specs.Values.{no_sample}
+use Rattle.pp_model.specs.Words.{Sample, RefersTo, IsSampleOf, Profile, NoRuleFails, no_sample}
 use Rattle.pp_model.proofs.RuleLemmas.{refers_from_valid, sample_at}
 use Rattle.pp_steal.specs.Running.{AreOutcomes}
 use Rattle.pp_count.specs.declared.scope.Scope.{Scope}

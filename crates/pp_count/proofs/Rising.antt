@@ -7,9 +7,7 @@ use Rattle.std.proofs.lemmas.List.{drop-drop, drop_more, length-map}
 use Rattle.std.proofs.lemmas.List.Elements.{All-nil, All-cons, All-head, All-tail, All-filter}
 use Rattle.std.proofs.lemmas.List.Kept.{AllPairs-cons, AllPairs-filter}
 use Rattle.std.proofs.lemmas.List.Sums.{sum_by-cons, sum_by-take-drop}
-use Rattle.pp_model.specs.declared.profile.Sample.{Sample}
-use Rattle.pp_model.specs.declared.profile.Profile.{Profile}
-use Rattle.pp_model.specs.Values.{no_sample}
+use Rattle.pp_model.specs.Words.{Sample, Profile, no_sample}
 use Rattle.pp_count.specs.Counts.{samples_at}
 use Rattle.pp_count.specs.Rising.{AreRisingBetween}
 

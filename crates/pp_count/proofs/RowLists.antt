@@ -3,7 +3,7 @@ use Rattle.std.proofs.Common.{◌≡◌, ℕ, ◌+◌, ◌-◌, ◌<◌, ◌≤�
 use Rattle.std.proofs.lemmas.Bool.{cases_lt, lt-ltb, le-ltb}
 use Rattle.std.proofs.lemmas.List.{get_or_append_left, take-append-le, drop-append-le, map-append}
 use Rattle.std.proofs.lemmas.List.Elements.{All-head, All-tail}
-use Rattle.pp_base.specs.Front.{IsFront}
+use Rattle.pp_base.specs.Words.{IsFront}
 use Rattle.pp_count.specs.declared.rows.TheConstants.{LONG}
 use Rattle.pp_count.specs.Rows.{row_by, IsRowWithin}
 

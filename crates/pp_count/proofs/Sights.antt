@@ -4,13 +4,8 @@ use Rattle.std.specs.Option.{unwrap_or}
 use Rattle.std.proofs.lemmas.List.{get_or-map, get_or_default, length-map, map-append, append-nil}
 use Rattle.std.proofs.Math.ListN.{drop_of_length-le}
 use Rattle.std.proofs.lemmas.List.Elements.{All-push}
-use Rattle.pp_model.specs.declared.frame.Frame.{Frame}
-use Rattle.pp_model.specs.declared.profile.Profile.{Profile}
-use Rattle.pp_model.specs.declared.grouping.Grouping.{Grouping}
-use Rattle.pp_model.specs.Conditions.{IsFrameOf}
-use Rattle.pp_model.specs.Frames.{rows, lines_at}
-use Rattle.pp_model.specs.FrameTexts.{Written, written}
-use Rattle.pp_grain.specs.Keys.{frame_counts, key_texts}
+use Rattle.pp_model.specs.Words.{Frame, Profile, Grouping, IsFrameOf, rows, lines_at, Written, written}
+use Rattle.pp_grain.specs.Words.{frame_counts, key_texts}
 use Rattle.pp_stack.proofs.RowLemmas.{frame_in}
 use Rattle.pp_count.specs.declared.table.KeyTable.{KeyTable}
 use Rattle.pp_count.specs.Table.{written_key, IsKeyTable}

@@ -7,11 +7,7 @@ use Rattle.std.proofs.lemmas.Option.{slice_get_read, slice_get_cases}
 use Rattle.std.proofs.lemmas.List.{take_more, append-nil}
 use Rattle.std.proofs.lemmas.List.Elements.{filter_map-append, filter-append}
 use Rattle.std.proofs.lemmas.List.Sums.{sum_by-append, sum_by-cons}
-use Rattle.pp_model.specs.declared.config.Config.{Config}
-use Rattle.pp_model.specs.declared.profile.Sample.{Sample}
-use Rattle.pp_model.specs.declared.profile.Profile.{Profile}
-use Rattle.pp_model.specs.declared.presentation.Presentation.{Presentation}
-use Rattle.pp_model.specs.Finders.{Finders}
+use Rattle.pp_model.specs.Words.{Config, Sample, Profile, Presentation, Finders}
 use Rattle.pp_count.specs.declared.scope.Scope.{Scope}
 use Rattle.pp_count.specs.declared.total.Totals.{Totals}
 use Rattle.pp_count.specs.Column.{selected}

@@ -2,16 +2,8 @@
 use Rattle.std.specs.Prelude.{◌≡◌, ℕ, ◌<◌, ◌^◌, nat_abs, Bool, false, List, length, map, Option, All}
 use Rattle.std.specs.List.{list_any, sum_by}
 use Rattle.std.specs.Option.{option_map_or}
-use Rattle.pp_model.specs.declared.config.Config.{Config}
-use Rattle.pp_model.specs.declared.loaded.Loaded.{Loaded}
-use Rattle.pp_model.specs.declared.profile.Profile.{Profile}
-use Rattle.pp_model.specs.declared.verdicts.Verdicts.{Verdicts}
-use Rattle.pp_model.specs.declared.filtering.Filtering.{Filtering}
-use Rattle.pp_model.specs.Conditions.{HasVerdicts, IsColumnOf}
-use Rattle.pp_model.specs.Finders.{Finders}
-use Rattle.pp_model.specs.FrameTexts.{Written}
-use Rattle.pp_model.specs.Sizes.{IsCountable}
-use Rattle.pp_grain.specs.Keys.{IsKeyOf}
+use Rattle.pp_model.specs.Words.{Config, Loaded, Profile, Verdicts, Filtering, HasVerdicts, IsColumnOf, Finders, Written, IsCountable}
+use Rattle.pp_grain.specs.Words.{IsKeyOf}
 use Rattle.pp_tags.specs.TagFilters.{HasItsTags, filter_in_force}
 use Rattle.pp_count.specs.declared.counted.Counted.{Counted}
 use Rattle.pp_count.specs.declared.scope.Scope.{Scope}

@@ -2,16 +2,8 @@
 use Rattle.std.specs.Prelude.{◌≡◌, ◌≢◌, ℕ, ◌==◌, Bool, ◌&&◌, List, map, AllPairs, is_some, codes, bytes_eq, if◌then◌else◌, Option}
 use Rattle.std.specs.List.{list_any, filter, filter_map, slice_get}
 use Rattle.std.specs.Ordering.{eq_by_cmp}
-use Rattle.pp_model.specs.declared.config.Config.{Config}
-use Rattle.pp_model.specs.declared.profile.Label.{Label}
-use Rattle.pp_model.specs.declared.profile.Sample.{Sample}
-use Rattle.pp_model.specs.declared.profile.Profile.{Profile}
-use Rattle.pp_model.specs.declared.filtering.Filtering.{Filtering}
-use Rattle.pp_model.specs.declared.presentation.Presentation.{Presentation}
-use Rattle.pp_model.specs.Finders.{Finders}
-use Rattle.pp_model.specs.Lookup.{text_of}
-use Rattle.pp_model.specs.FrameTexts.{Written}
-use Rattle.pp_grain.specs.Keys.{key_cmp, key_written}
+use Rattle.pp_model.specs.Words.{Config, Label, Sample, Profile, Filtering, Presentation, Finders, text_of, Written}
+use Rattle.pp_grain.specs.Words.{key_cmp, key_written}
 use Rattle.pp_count.specs.declared.sums.Sums.{Sums}
 use Rattle.pp_count.specs.Sums.{Seen, flat, cum, occurs}
 use Rattle.pp_count.specs.Seeing.{filtered_stack, absolute_all}

@@ -3,16 +3,10 @@ use Rattle.std.specs.Prelude.{◌≡◌, ℕ, ◌<◌, ◌==◌, ℤ, Bool, fals
 use Rattle.std.specs.List.{filter, list_any, range_with_len}
 use Rattle.std.specs.Ordering.{eq_by_cmp}
 use Rattle.std.specs.declared.cmp.Ordering.{Ordering}
-use Rattle.pp_model.specs.FrameTexts.{Written}
-use Rattle.pp_model.specs.declared.profile.Profile.{Profile}
-use Rattle.pp_grain.specs.declared.key.Key.{Key}
-use Rattle.pp_grain.specs.Keys.{key_cmp}
+use Rattle.pp_model.specs.Words.{Written, Profile, Config, Loaded, Verdicts, Finders}
+use Rattle.pp_grain.specs.Words.{Key, key_cmp}
 use Rattle.pp_count.specs.Table.{written_key}
 use Rattle.pp_count.specs.Sums.{Seen, sum_where, weighed, renamed}
-use Rattle.pp_model.specs.declared.config.Config.{Config}
-use Rattle.pp_model.specs.declared.loaded.Loaded.{Loaded}
-use Rattle.pp_model.specs.declared.verdicts.Verdicts.{Verdicts}
-use Rattle.pp_model.specs.Finders.{Finders}
 use Rattle.pp_count.specs.declared.pairs.Pairing.{Pairing}
 use Rattle.pp_count.specs.declared.part.KeySum.{KeySum}
 use Rattle.pp_count.specs.Seeing.{HoldsFilters, seen_samples}

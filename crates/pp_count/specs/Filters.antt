@@ -1,13 +1,7 @@
 -- What the filters of a report need beside its verdicts.
 use Rattle.std.specs.Prelude.{◌≡◌, Bool, false, List, Option}
 use Rattle.std.specs.Option.{ForSome}
-use Rattle.pp_model.specs.declared.frame.Frame.{Frame}
-use Rattle.pp_model.specs.declared.profile.Profile.{Profile}
-use Rattle.pp_model.specs.declared.verdicts.Verdicts.{Verdicts}
-use Rattle.pp_model.specs.declared.filtering.Filtering.{Filtering}
-use Rattle.pp_model.specs.Conditions.{IsFrameOf}
-use Rattle.pp_model.specs.Finders.{Finder}
-use Rattle.pp_model.specs.FrameTexts.{written}
+use Rattle.pp_model.specs.Words.{Frame, Profile, Verdicts, Filtering, IsFrameOf, Finder, written}
 use Rattle.pp_stack.specs.Filters.{AreVerdicts, finds_frame}
 use Rattle.pp_stack.specs.Tables.{AreTables}
 use Rattle.pp_tags.specs.TagFilters.{HasItsTags, filter_in_force}

@@ -1,11 +1,6 @@
 -- What may be said of verdicts by their lengths alone.
 use Rattle.std.specs.Prelude.{ℕ, Option}
-use Rattle.pp_model.specs.declared.loaded.Loaded.{Loaded}
-use Rattle.pp_model.specs.declared.profile.Profile.{Profile}
-use Rattle.pp_model.specs.declared.verdicts.Verdicts.{Verdicts}
-use Rattle.pp_model.specs.declared.filtering.Filtering.{Filtering}
-use Rattle.pp_model.specs.Finders.{Finders}
-use Rattle.pp_model.specs.Rules.{NoRuleFails, IsCompact}
+use Rattle.pp_model.specs.Words.{Loaded, Profile, Verdicts, Filtering, Finders, NoRuleFails, IsCompact}
 use Rattle.pp_tags.specs.TagFilters.{FitTagFilter, filter_in_force}
 use Rattle.pp_count.specs.Counted.{CanCount}
 use Rattle.pp_count.specs.Seeing.{HoldsFilters}

@@ -2,12 +2,7 @@
 use Rattle.std.specs.Prelude.{ℕ, Bool, true, false, ◌||◌, List, [], ◌∷◌, drop, slice_index_or, Option}
 use Rattle.std.specs.List.{list_any}
 use Rattle.std.specs.Option.{option_map_or}
-use Rattle.pp_model.specs.declared.profile.Sample.{Sample}
-use Rattle.pp_model.specs.declared.profile.Profile.{Profile}
-use Rattle.pp_model.specs.declared.filtering.Filtering.{Filtering}
-use Rattle.pp_model.specs.Finders.{Finder, Finders, TagFinders}
-use Rattle.pp_model.specs.Frames.{stack_of}
-use Rattle.pp_model.specs.FrameTexts.{written}
+use Rattle.pp_model.specs.Words.{Sample, Profile, Filtering, Finder, Finders, TagFinders, stack_of, written}
 use Rattle.pp_stack.specs.Filters.{finds_frame, load_pruned}
 use Rattle.pp_tags.specs.Labels.{key_text}
 use Rattle.pp_tags.specs.TagFilters.{filter_in_force, selects_or}

@@ -3,7 +3,7 @@ use Rattle.std.specs.Prelude.{◌≡◌, ℕ, ◌<◌, ◌==◌, List, [], ◌�
 use Rattle.std.specs.List.{filter, sum_by}
 use Rattle.std.specs.Ordering.{nat_cmp}
 use Rattle.pp_count.specs.Sums.{Seen, flat, cum, occurs}
-use Rattle.pp_grain.specs.declared.key.Key.{Key}
+use Rattle.pp_grain.specs.Words.{Key}
 use Rattle.pp_count.specs.Table.{no_key}
 use Rattle.pp_count.specs.declared.part.KeySum.{KeySum}
 

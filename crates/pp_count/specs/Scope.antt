@@ -1,11 +1,7 @@
 -- What a range of samples comes to, as its parts are made on the lanes.
 use Rattle.std.specs.Prelude.{◌≡◌, ℕ, ◌+◌, ◌<◌, ◌≤◌, ◌^◌, Bool, List, length, map, All, Option, None, MatchOption, option_map, ⊤}
 use Rattle.std.specs.Option.{option_map_or}
-use Rattle.pp_model.specs.declared.config.Config.{Config}
-use Rattle.pp_model.specs.declared.profile.Sample.{Sample}
-use Rattle.pp_model.specs.declared.profile.Profile.{Profile}
-use Rattle.pp_model.specs.Conditions.{HasVerdicts}
-use Rattle.pp_model.specs.Finders.{Finders}
+use Rattle.pp_model.specs.Words.{Config, Sample, Profile, HasVerdicts, Finders}
 use Rattle.pp_count.specs.declared.scope.Scope.{Scope}
 use Rattle.pp_count.specs.declared.part.Part.{Part}
 use Rattle.pp_count.specs.declared.pairs.Pairing.{Pairing}

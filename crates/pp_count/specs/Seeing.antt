@@ -1,17 +1,8 @@
 -- How a report sees the samples of a profile: the stacks that the filters leave, and the keys of the frames that count.
 use Rattle.std.specs.Prelude.{ℕ, ◌+◌, nat_abs, Bool, List, [], ◌∷◌, map, Option, None, is_some, option_map, if◌then◌else◌}
 use Rattle.std.specs.List.{filter_map, sum_by}
-use Rattle.pp_model.specs.declared.config.Config.{Config}
-use Rattle.pp_model.specs.declared.frame.Frame.{Frame}
-use Rattle.pp_model.specs.declared.profile.Sample.{Sample}
-use Rattle.pp_model.specs.declared.profile.Profile.{Profile}
-use Rattle.pp_model.specs.declared.loaded.Loaded.{Loaded}
-use Rattle.pp_model.specs.declared.verdicts.Verdicts.{Verdicts}
-use Rattle.pp_model.specs.declared.grouping.Grouping.{Grouping}
-use Rattle.pp_model.specs.declared.filtering.Filtering.{Filtering}
-use Rattle.pp_model.specs.Finders.{Finders, HoldsFinders}
-use Rattle.pp_model.specs.FrameTexts.{Written, written}
-use Rattle.pp_grain.specs.Keys.{frame_counts, key_texts}
+use Rattle.pp_model.specs.Words.{Config, Frame, Sample, Profile, Loaded, Verdicts, Grouping, Filtering, Finders, HoldsFinders, Written, written}
+use Rattle.pp_grain.specs.Words.{frame_counts, key_texts}
 use Rattle.pp_stack.specs.Filters.{frames_of_sample}
 use Rattle.pp_tags.specs.TagFilters.{AreTagVerdicts, filter_in_force, is_tag_kept}
 use Rattle.pp_count.specs.Column.{selected}

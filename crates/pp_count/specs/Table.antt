@@ -1,13 +1,8 @@
 -- The key numbers of the lines of each location.
 use Rattle.std.specs.Prelude.{◌≡◌, ℕ, ◌<◌, Bool, pos, List, [], length, map, slice_index_or, All, AllPairs, ◌≢◌}
-use Rattle.pp_base.specs.Front.{IsFront}
-use Rattle.pp_model.specs.declared.grouping.Grain.{Grain}
-use Rattle.pp_model.specs.declared.profile.Profile.{Profile}
-use Rattle.pp_model.specs.declared.grouping.Grouping.{Grouping}
-use Rattle.pp_model.specs.Frames.{rows, lines_at}
-use Rattle.pp_model.specs.FrameTexts.{Written, written}
-use Rattle.pp_grain.specs.declared.key.Key.{Key}
-use Rattle.pp_grain.specs.Keys.{key_texts, key_written, IsKeyOf}
+use Rattle.pp_base.specs.Words.{IsFront}
+use Rattle.pp_model.specs.Words.{Grain, Profile, Grouping, rows, lines_at, Written, written}
+use Rattle.pp_grain.specs.Words.{Key, key_texts, key_written, IsKeyOf}
 use Rattle.pp_count.specs.declared.table.KeyTable.{KeyTable}
 
 -- a key of which nothing is known

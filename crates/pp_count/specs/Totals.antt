@@ -1,10 +1,8 @@
 -- What percentages are taken of, added up over ranges of samples. No public clause cites it.
 use Rattle.std.specs.Prelude.{◌≡◌, ℕ, ◌+◌, List, Option}
 use Rattle.std.specs.List.{filter}
-use Rattle.pp_model.specs.declared.profile.Sample.{Sample}
-use Rattle.pp_model.specs.declared.profile.Profile.{Profile}
-use Rattle.pp_model.specs.declared.presentation.Presentation.{Presentation}
-use Rattle.pp_base.specs.Capped.{capped}
+use Rattle.pp_model.specs.Words.{Sample, Profile, Presentation}
+use Rattle.pp_base.specs.Words.{capped}
 use Rattle.pp_count.specs.declared.total.Totals.{Totals}
 use Rattle.pp_count.specs.Counts.{is_base}
 use Rattle.pp_count.specs.Seeing.{absolute_all}

@@ -1,8 +1,7 @@
 //! What the base's samples of a compared profile come to.
 ghost use Rattle.std.specs.Prelude.{◌≡◌, ◌++◌, ◌+◌, ◌+ℤ◌, ◌<◌, ◌^◌, nat_abs, [], ◌∷◌, length, map, slice_index_or, IfOk, if◌then◌else◌};
 ghost use Rattle.std.specs.List.{filter};
-ghost use Rattle.pp_model.specs.Finders.{Finders};
-ghost use Rattle.pp_model.specs.Values.{no_sample};
+ghost use Rattle.pp_model.specs.Words.{Finders, no_sample};
 ghost use Rattle.pp_count.specs.Base.{has_base, is_base_number, selected_all, AreBaseSums, FitBase, HasTallies};
 ghost use Rattle.pp_count.specs.Column.{selected};
 ghost use Rattle.pp_count.specs.Counts.{filtered_samples, samples_at};

@@ -4,8 +4,7 @@ ghost use Rattle.std.specs.List.{list_all};
 ghost use Rattle.std.specs.Result.{result_ok};
 ghost use Rattle.std.specs.Str.Parse.{digits_value};
 ghost use Rattle.std.specs.Char.{is_ascii_digit};
-ghost use Rattle.pp_model.specs.Conditions.{IsColumnOf};
-ghost use Rattle.pp_model.specs.Lookup.{text_of};
+ghost use Rattle.pp_model.specs.Words.{IsColumnOf, text_of};
 ghost use Rattle.pp_count.specs.Column.{column_of, default_column, column_named, column_at, type_named};
 
 use pp_model::{Loaded, Presentation, Profile, text_of};

@@ -1,10 +1,8 @@
 //! The filters of a report, made ready for its samples.
 ghost use Rattle.std.specs.Prelude.{◌≡◌, IfOk, Option, List as Seq, Bool};
 ghost use Rattle.std.specs.List.{list_any};
-ghost use Rattle.pp_model.specs.Conditions.{HasVerdicts};
+ghost use Rattle.pp_model.specs.Words.{HasVerdicts, Profile, Verdicts};
 ghost use Rattle.pp_tags.specs.TagFilters.{HasItsTags, filter_in_force};
-ghost use Rattle.pp_model.specs.declared.profile.Profile.{Profile};
-ghost use Rattle.pp_model.specs.declared.verdicts.Verdicts.{Verdicts};
 ghost use Rattle.pp_stack.specs.Tables.{AreTables, FitsPattern};
 ghost use Rattle.pp_count.specs.Filters.{AreFilters, AreReached, IsReach};
 

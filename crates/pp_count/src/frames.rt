@@ -1,7 +1,6 @@
 //! The frames of a location, in room that is used again.
 ghost use Rattle.std.specs.Prelude.{◌≡◌, ◌++◌, ◌<◌, length, IfOk};
-ghost use Rattle.pp_model.specs.Conditions.{IsStackOf};
-ghost use Rattle.pp_model.specs.Frames.{rows, lines_at};
+ghost use Rattle.pp_model.specs.Words.{IsStackOf, rows, lines_at};
 
 use pp_base::Memory;
 use pp_model::{Frame, Loaded, Profile, Stack};

@@ -2,9 +2,7 @@
 ghost use Rattle.std.specs.Prelude.{◌≡◌, ◌+◌, ◌<◌, ◌≤◌, ◌^◌, length, take, drop, slice_index_or, All, IfOk, Option, List as Seq, false};
 ghost use Rattle.std.specs.List.{list_any};
 ghost use Rattle.std.specs.Option.{ForSome, option_map_or};
-ghost use Rattle.pp_model.specs.Conditions.{HasOnePerText, IsSampleOf, RefersTo};
-ghost use Rattle.pp_model.specs.Finders.{Finder, Finders, TagFinders};
-ghost use Rattle.pp_model.specs.Judged.{judged};
+ghost use Rattle.pp_model.specs.Words.{HasOnePerText, IsSampleOf, RefersTo, Finder, Finders, TagFinders, judged};
 ghost use Rattle.pp_stack.specs.Filters.{AreVerdicts};
 ghost use Rattle.pp_stack.specs.Tables.{FitsPattern, IsVerdictTable};
 ghost use Rattle.pp_tags.specs.TagFilters.{AreTagVerdicts, HasItsTags, selects_or};

@@ -1,6 +1,6 @@
 //! What a range of the samples comes to.
 ghost use Rattle.std.specs.Prelude.{◌≡◌, ℕ, ◌+◌, ◌<◌, ◌≤◌, ◌^◌, nat_abs, length, take, drop, IfOk};
-ghost use Rattle.pp_model.specs.Conditions.{RefersTo};
+ghost use Rattle.pp_model.specs.Words.{RefersTo};
 ghost use Rattle.pp_count.specs.Edges.{counted_keys};
 ghost use Rattle.pp_count.specs.Tally.{tally_at, no_tally, with_seen};
 ghost use Rattle.pp_count.specs.Table.{IsKeyTable};

@@ -1,6 +1,6 @@
 //! The edges between the keys that are kept.
 ghost use Rattle.std.specs.Prelude.{◌≡◌, ◌++◌, ◌*◌, ◌<◌, ◌^◌, [], ◌∷◌, if◌then◌else◌, None, length, map, replicate, slice_index_or, All, IfOk};
-ghost use Rattle.pp_model.specs.Finders.{Finders};
+ghost use Rattle.pp_model.specs.Words.{Finders};
 ghost use Rattle.pp_count.specs.Seeing.{HoldsFilters};
 ghost use Rattle.pp_count.specs.Counted.{report_samples};
 ghost use Rattle.pp_count.specs.Edges.{is_kept_key, is_marked, edge_of_sum, AreOnce, ArePairPlaces, HasPairPlaces};

@@ -1,6 +1,6 @@
 //! Rows of key numbers, most of them of one number, in two flat lists.
 ghost use Rattle.std.specs.Prelude.{◌≡◌, ◌∷◌, ◌++◌, ◌<◌, [], length, slice_index_or, IfOk};
-ghost use Rattle.pp_base.specs.Front.{IsFront};
+ghost use Rattle.pp_base.specs.Words.{IsFront};
 ghost use Rattle.pp_count.specs.Rows.{row_by, IsRowWithin};
 
 use pp_base::{List, Memory};

@@ -1,7 +1,7 @@
 //! How the samples of a count are seen.
 ghost use Rattle.std.specs.Prelude.{◌≡◌, ◌<◌, ◌^◌, length, Some, None};
 ghost use Rattle.std.specs.List.{slice_get};
-ghost use Rattle.pp_model.specs.Conditions.{RefersTo, IsSampleOf};
+ghost use Rattle.pp_model.specs.Words.{RefersTo, IsSampleOf};
 ghost use Rattle.pp_count.specs.Scope.{IsSoundScope, profile_in_scope, samples_in_scope};
 
 use crate::filters::Filters;

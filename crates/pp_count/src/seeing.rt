@@ -1,8 +1,6 @@
 //! A sample as a report sees it, by key numbers.
 ghost use Rattle.std.specs.Prelude.{◌≡◌, ◌++◌, ◌<◌, [], false, length, map, slice_index_or, All, IfOk, option_map};
-ghost use Rattle.pp_model.specs.Conditions.{IsFrameOf, IsStackOf, IsSampleOf, RefersTo};
-ghost use Rattle.pp_model.specs.Finders.{Finders};
-ghost use Rattle.pp_model.specs.Frames.{stack_of};
+ghost use Rattle.pp_model.specs.Words.{IsFrameOf, IsStackOf, IsSampleOf, RefersTo, Finders, stack_of};
 ghost use Rattle.pp_stack.specs.Runs.{kept_if};
 ghost use Rattle.pp_count.specs.Table.{written_key, IsKeyTable};
 ghost use Rattle.pp_count.specs.Seeing.{HoldsFilters, key_of_frame, keys_of_stack, filtered_stack};

@@ -1,6 +1,6 @@
 //! The sums of a report, by keys.
 ghost use Rattle.std.specs.Prelude.{◌≡◌, ◌≢◌, [], ◌∷◌, ◌++◌, ℕ, ◌≤◌, ◌<◌, length, map, slice_index_or, All, AllPairs, IfOk};
-ghost use Rattle.pp_grain.specs.Sight.{with_key};
+ghost use Rattle.pp_grain.specs.Words.{with_key};
 ghost use Rattle.pp_count.specs.Table.{no_key};
 ghost use Rattle.pp_count.specs.Parts.{sums_of, key_at_sum};
 

@@ -1,9 +1,7 @@
 //! The key numbers of the lines of each location: made once for a report, and read by all pieces.
 ghost use Rattle.std.specs.Prelude.{◌≡◌, ◌<◌, [], length, map, slice_get, All, IfOk};
-ghost use Rattle.pp_model.specs.Conditions.{IsStackOf};
-ghost use Rattle.pp_model.specs.FrameTexts.{written};
-ghost use Rattle.pp_grain.specs.Keys.{IsKeyOf};
-ghost use Rattle.pp_grain.specs.Sight.{with_key};
+ghost use Rattle.pp_model.specs.Words.{IsStackOf, written};
+ghost use Rattle.pp_grain.specs.Words.{IsKeyOf, with_key};
 ghost use Rattle.pp_count.specs.Table.{Grown, IsNumbered, IsRow, AreRows, IsKeyTable};
 
 use crate::frames::frames_of;

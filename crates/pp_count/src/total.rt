@@ -1,6 +1,6 @@
 //! What percentages are taken of.
 ghost use Rattle.std.specs.Prelude.{◌≡◌, [], ◌∷◌, is_some, if◌then◌else◌};
-ghost use Rattle.pp_model.specs.Finders.{Finders};
+ghost use Rattle.pp_model.specs.Words.{Finders};
 ghost use Rattle.pp_count.specs.Column.{selected};
 ghost use Rattle.pp_count.specs.Counts.{is_base_label, is_base, total_by};
 ghost use Rattle.pp_count.specs.Scope.{profile_in_scope, HasTotals};

@@ -3,8 +3,7 @@ use Rattle.std.proofs.Common.{◌≡◌, Bool, true, false, List, Option, Some, 
 use Rattle.std.specs.Prelude.{Result, Ok, Err, IfErr}
 use Rattle.std.specs.Borrow.{GName}
 use Rattle.std.proofs.lemmas.Bool.{false≢true}
-use Rattle.pp_base.specs.Fault.{Rose}
-use Rattle.pp_base.specs.Judges.{Answer}
+use Rattle.pp_base.specs.Words.{Rose, Answer}
 use Rattle.pp_desk.specs.declared.stop.Stop.{Stop}
 use Rattle.pp_desk.specs.declared.stop.Stop.TheVariants as stops
 use Rattle.pp_desk.specs.Asked.{Asked, told_by, value_of, world_by}

@@ -5,10 +5,7 @@ use Rattle.std.proofs.lemmas.List.{append-nil}
 use Rattle.std.proofs.lemmas.List.Concat.{flat_map-append}
 use Rattle.std.proofs.lemmas.Option.{same_Some}
 use Rattle.pp_base.proofs.CallerLemmas.{take-IsFront}
-use Rattle.pp_base.specs.FileMap.{FileMap, with_content}
-use Rattle.pp_base.specs.Front.{IsFront}
-use Rattle.pp_base.specs.Judges.{Answer}
-use Rattle.pp_base.specs.Told.{extended, extended-extended, extended-nil}
+use Rattle.pp_base.specs.Words.{FileMap, with_content, IsFront, Answer, extended, extended-extended, extended-nil}
 use Rattle.pp_desk.specs.declared.stop.Stop.{Stop}
 use Rattle.pp_desk.specs.declared.stop.Stop.TheVariants as stops
 use Rattle.pp_desk.specs.Course.{given}

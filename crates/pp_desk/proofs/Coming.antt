@@ -6,14 +6,13 @@ use Rattle.std.proofs.lemmas.Bool.{cases_lt}
 use Rattle.std.proofs.lemmas.List.{length-replicate, drop-take, take-append-drop}
 use Rattle.std.proofs.lemmas.List.Elements.{All-append, All-drop, All-nil, All-replicate}
 use Rattle.std.proofs.lemmas.Option.{same_Some}
-use Rattle.pp_base.specs.Told.{before}
+use Rattle.pp_base.specs.Words.{before, is_line_end}
 use Rattle.pp_desk.specs.declared.input_line.InputLine.{InputLine}
 use Rattle.pp_desk.specs.declared.line_reader.TheConstants.{LINE_LIMIT}
 use Rattle.pp_desk.specs.Finding.{HasNoEnd, EndsAt}
 use Rattle.pp_desk.specs.Lines.{lines_in}
 use Rattle.pp_desk.specs.Reader.{ReaderHeld, left_of, to_come, lines_from}
 use Rattle.pp_desk.proofs.Parting.{lines_passed, lines_taken}
-use Rattle.pp_base.specs.Marks.{is_line_end}
 
 -- what is passed over ends no line
 pub zeros_end_nothing : (count : ℕ) → HasNoEnd (replicate count 0)

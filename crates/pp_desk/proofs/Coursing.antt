@@ -3,9 +3,7 @@ use Rattle.std.proofs.Common.{◌≡◌, inl, inr, ℕ, Bool, true, false, not, 
 use Rattle.std.specs.Prelude.{option_map}
 use Rattle.std.proofs.lemmas.Option.{MatchOption-at_some}
 use Rattle.pp_base.proofs.CallerLemmas.{take-IsFront}
-use Rattle.pp_base.specs.FileMap.{FileMap, content_at, with_file, with_content, among}
-use Rattle.pp_base.specs.Front.{IsFront}
-use Rattle.pp_base.specs.Told.{extended, extended-extended, extended-nil}
+use Rattle.pp_base.specs.Words.{FileMap, content_at, with_file, with_content, among, IsFront, extended, extended-extended, extended-nil}
 use Rattle.pp_desk.specs.declared.file_content.FileContent.{FileContent}
 use Rattle.pp_desk.specs.declared.stop.Stop.{Stop}
 use Rattle.pp_desk.specs.declared.stop.Stop.TheVariants as stops

@@ -14,7 +14,7 @@ use Rattle.pp_desk.specs.Finding.{HasNoEnd, EndsAt, GivesFront}
 use Rattle.pp_desk.specs.Lines.{lines_in, line_of, ending_of, next_of, after_next}
 use Rattle.pp_desk.specs.Reader.{ReaderHeld, pending, left_of, to_come, GivesNext, GivesLine, last_answer}
 use Rattle.pp_desk.proofs.Parting.{lines_first, lines_last, after_first, too_long}
-use Rattle.pp_base.specs.Marks.{is_line_end}
+use Rattle.pp_base.specs.Words.{is_line_end}
 
 -- a line that is short enough
 short_enough : (line : List ℕ) → length line ≤ LINE_LIMIT → line_of line ≡ lines.Line line

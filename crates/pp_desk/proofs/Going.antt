@@ -1,7 +1,7 @@
 -- How stages follow one another.
 use Rattle.std.proofs.Common.{◌≡◌, ◌++◌, ◌+◌, length, inl, inr, List, ℕ, [], Option, Some, None, refl, sym, ap, arith, append_assoc, length-append, ◌∙◌}
 use Rattle.std.specs.Prelude.{Result, Ok, Err}
-use Rattle.pp_base.specs.Told.{before}
+use Rattle.pp_base.specs.Words.{before}
 use Rattle.pp_desk.specs.declared.stop.Stop.{Stop}
 use Rattle.pp_desk.specs.declared.stop.Stop.TheVariants as stops
 use Rattle.pp_desk.specs.World.{Told, Faults, Later, Intake, intake, HasTaken, World}

@@ -3,14 +3,8 @@ use Rattle.std.proofs.Common.{◌≡◌, ◌≤◌, ◌<◌, ◌⊎◌, inl, inr
 use Rattle.std.specs.Prelude.{Ok, Err, IfSome, IsSomeAnd}
 use Rattle.std.proofs.lemmas.Bool.Decides.{nat_tests}
 use Rattle.std.proofs.lemmas.Bool.{cases_Bool}
-use Rattle.pp_base.specs.Fault.{Rose}
-use Rattle.pp_base.specs.FileMap.{FileMap, content_at, with_content, among}
-use Rattle.pp_base.specs.FileAnswers.{LeavesFront}
-use Rattle.pp_base.specs.Judges.{Answer}
-use Rattle.pp_base.specs.Told.{extended}
-use Rattle.pp_base.specs.Writes.{PutsWhole}
+use Rattle.pp_base.specs.Words.{Rose, FileMap, content_at, with_content, among, LeavesFront, Answer, extended, PutsWhole, IsFront}
 use Rattle.pp_base.specs.declared.whole.WriteFault.TheVariants as faults
-use Rattle.pp_base.specs.Front.{IsFront}
 use Rattle.pp_desk.specs.declared.file_content.FileContent.{FileContent}
 use Rattle.pp_desk.specs.declared.file_content.FileContent.TheVariants as contents
 use Rattle.pp_desk.specs.declared.stop.Stop.TheVariants as stops

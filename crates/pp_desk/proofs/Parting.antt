@@ -11,7 +11,7 @@ use Rattle.pp_desk.specs.declared.input_line.InputLine.TheVariants.{TooLong, End
 use Rattle.pp_desk.specs.declared.line_reader.TheConstants.{LINE_LIMIT}
 use Rattle.pp_desk.specs.Finding.{HasNoEnd}
 use Rattle.pp_desk.specs.Lines.{line_of, ending_of, lines_of_parts, lines_in, after_next}
-use Rattle.pp_base.specs.Marks.{is_line_end}
+use Rattle.pp_base.specs.Words.{is_line_end}
 
 -- bytes always have a part
 pub parted : (bytes : List ℕ) → (part : List ℕ) × (parts : List (List ℕ)) × (slice_split is_line_end bytes ≡ part ∷ parts)

@@ -1,7 +1,7 @@
 -- How a script went that a matcher alone answers.
 use Rattle.std.specs.Prelude.{List, Option, Some, None, Result, Ok, Err}
 use Rattle.std.specs.Borrow.{GName}
-use Rattle.pp_base.specs.Judges.{Answer}
+use Rattle.pp_base.specs.Words.{Answer}
 use Rattle.pp_desk.specs.declared.stop.Stop.{Stop}
 use Rattle.pp_desk.specs.declared.stop.Stop.TheVariants as stops
 use Rattle.pp_desk.specs.Script.{Script}

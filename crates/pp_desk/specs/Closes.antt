@@ -1,7 +1,6 @@
 -- A line that is told at the end, whatever standard error answers.
 use Rattle.std.specs.Prelude.{◌≡◌, ℕ, List}
-use Rattle.pp_base.specs.Front.{IsFront}
-use Rattle.pp_base.specs.Told.{extended}
+use Rattle.pp_base.specs.Words.{IsFront, extended}
 use Rattle.pp_desk.specs.Went.{IsTakenOn}
 use Rattle.pp_desk.specs.World.{World, Later}
 

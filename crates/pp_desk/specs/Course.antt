@@ -1,10 +1,7 @@
 -- The course of a script over an outside that tells: what it does, what it gives, and which
 -- patterns it asks.
 use Rattle.std.specs.Prelude.{◌≡◌, ℕ, true, false, List, [], ◌∷◌, Option, Some, None, length, drop, map, if◌then◌else◌}
-use Rattle.pp_base.specs.FileMap.{FileMap, content_at, with_file, among}
-use Rattle.pp_base.specs.Front.{IsFront}
-use Rattle.pp_base.specs.Judges.{Answer}
-use Rattle.pp_base.specs.Told.{extended}
+use Rattle.pp_base.specs.Words.{FileMap, content_at, with_file, among, IsFront, Answer, extended}
 use Rattle.pp_desk.specs.declared.input_line.InputLine.{InputLine}
 use Rattle.pp_desk.specs.Effects.{Effect, ToOut, ToErr, ToFile, FromFile, Outside, outside, Did, DidFront}
 use Rattle.pp_desk.specs.Lines.{next_of, after_next}

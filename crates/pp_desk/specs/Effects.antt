@@ -1,8 +1,6 @@
 -- What a script does to the outside, and what was done of it.
 use Rattle.std.specs.Prelude.{◌≡◌, ◌⊎◌, ⊤, [], ◌∷◌, List, ℕ, Option, flat_map}
-use Rattle.pp_base.specs.Told.{extended}
-use Rattle.pp_base.specs.FileMap.{FileMap, with_content}
-use Rattle.pp_base.specs.Front.{IsFront}
+use Rattle.pp_base.specs.Words.{extended, FileMap, with_content, IsFront}
 
 -- One effect: bytes to standard output, bytes to standard error, a file at a path, or the read of a
 -- path.

@@ -1,6 +1,6 @@
 -- How a reader finds the end of a line: what its own functions promise one another.
 use Rattle.std.specs.Prelude.{◌≡◌, ◌≤◌, ◌<◌, ◌+◌, ◌++◌, ℕ, ⊤, true, false, List, ◌∷◌, All, Option, Some, None, length, take, drop}
-use Rattle.pp_base.specs.declared.source.SourceRead.{SourceRead}
+use Rattle.pp_base.specs.Words.{SourceRead, is_line_end}
 use Rattle.pp_base.specs.declared.source.SourceRead.TheVariants as source
 use Rattle.pp_desk.specs.declared.line_reader.LineRead.{LineRead}
 use Rattle.pp_desk.specs.declared.line_reader.LineRead.TheVariants as reads
@@ -8,7 +8,6 @@ use Rattle.pp_desk.specs.declared.line_reader.Found.{Found}
 use Rattle.pp_desk.specs.declared.line_reader.Found.TheVariants as founds
 use Rattle.pp_desk.specs.declared.line_reader.TheConstants.{LINE_LIMIT, INPUT_LIMIT}
 use Rattle.pp_desk.specs.declared.window.TheConstants.{WINDOW_LIMIT}
-use Rattle.pp_base.specs.Marks.{is_line_end}
 use Rattle.pp_desk.specs.Reader.{ReaderHeld, pending}
 
 -- What is true of each reader. Only a line that is too long is passed over, and no more bytes are held than a window

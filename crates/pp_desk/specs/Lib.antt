@@ -11,3 +11,4 @@ pub mod Course
 pub mod Taking
 pub mod Closes
 pub mod Asked
+pub mod Words

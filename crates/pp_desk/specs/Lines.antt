@@ -4,7 +4,7 @@ use Rattle.std.specs.List.{slice_split}
 use Rattle.pp_desk.specs.declared.line_reader.TheConstants.{LINE_LIMIT, INPUT_LIMIT}
 use Rattle.pp_desk.specs.declared.input_line.InputLine.{InputLine}
 use Rattle.pp_desk.specs.declared.input_line.InputLine.TheVariants.{Line, TooLong, End, InputTooLong}
-use Rattle.pp_base.specs.Marks.{is_line_end}
+use Rattle.pp_base.specs.Words.{is_line_end}
 
 -- a line by its bytes, where there aren't too many
 abbrev pub line_of : List ℕ → InputLine

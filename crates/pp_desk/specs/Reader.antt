@@ -8,7 +8,7 @@ use Rattle.pp_desk.specs.declared.line_reader.LineRead.TheVariants as reads
 use Rattle.pp_desk.specs.declared.line_reader.TheConstants.{INPUT_LIMIT}
 use Rattle.pp_desk.specs.declared.window.TheConstants.{WINDOW_LIMIT}
 use Rattle.pp_desk.specs.Lines.{lines_in, lines_of, next_of, after_next}
-use Rattle.pp_base.specs.Marks.{is_line_end}
+use Rattle.pp_base.specs.Words.{is_line_end}
 
 -- What a reader holds: how many bytes of the present line it passed over, since the line is too long. Behind them stand
 -- the bytes that it took of the source. It may still take `room` bytes, and `ended` says whether the source has ended.

@@ -1,9 +1,6 @@
 -- How a stage went: its script was done as a whole, or up to the step at which it was stopped.
 use Rattle.std.specs.Prelude.{◌≡◌, ◌≤◌, ◌<◌, ◌⊎◌, ℕ, true, false, not, ⊤, [], ◌∷◌, List, Option, Some, None, Result, Ok, Err, IfErr, IfSome, option_map, take, length, nat_lt, if◌then◌else◌}
-use Rattle.pp_base.specs.Fault.{Rose}
-use Rattle.pp_base.specs.FileMap.{content_at, with_content, among}
-use Rattle.pp_base.specs.Front.{IsFront}
-use Rattle.pp_base.specs.Told.{extended}
+use Rattle.pp_base.specs.Words.{Rose, content_at, with_content, among, IsFront, extended}
 use Rattle.pp_desk.specs.declared.file_content.FileContent.{FileContent}
 use Rattle.pp_desk.specs.declared.file_content.FileContent.TheVariants as contents
 use Rattle.pp_desk.specs.declared.stop.Stop.{Stop}

@@ -1,7 +1,6 @@
 -- A window over the bytes of a source.
 use Rattle.std.specs.Prelude.{◌≡◌, ◌<◌, ◌≤◌, ◌++◌, ℕ, List, [], length, Option, IfSome}
-use Rattle.pp_base.specs.Told.{before}
-use Rattle.pp_base.specs.declared.source.SourceRead.{SourceRead}
+use Rattle.pp_base.specs.Words.{before, SourceRead}
 use Rattle.pp_base.specs.declared.source.SourceRead.TheVariants.{Got, End, Failed}
 
 -- These bytes were taken of the source, at least one and at most `most`.

@@ -2,9 +2,7 @@
 -- they are, and what may still be taken of the input.
 use Rattle.std.specs.Prelude.{ℕ, ◌≡◌, ◌≤◌, ◌+◌, List, Option, length}
 use Rattle.std.specs.Borrow.{GName}
-use Rattle.pp_base.specs.FileMap.{FileMap}
-use Rattle.pp_base.specs.Judges.{Answer}
-use Rattle.pp_base.specs.Told.{before}
+use Rattle.pp_base.specs.Words.{FileMap, Answer, before}
 use Rattle.pp_desk.specs.declared.input_line.InputLine.{InputLine}
 
 -- What the objects tell, each of them only where it can be known. Outputs tell their bytes, and files what they hold,

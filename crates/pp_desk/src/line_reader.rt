@@ -1,8 +1,7 @@
 //! The lines of a source.
 ghost use Rattle.std.specs.Prelude.{◌≡◌, ◌≢◌, ◌≤◌, ◌<◌, ◌-◌, [], true, false, Some, IfOk, IfSome, option_map, length, take, drop};
 ghost use Rattle.std.specs.List.{list_any};
-ghost use Rattle.pp_base.specs.Fault.{Rose};
-ghost use Rattle.pp_base.specs.Marks.{is_line_end};
+ghost use Rattle.pp_base.specs.Words.{Rose, is_line_end};
 ghost use Rattle.pp_desk.specs.World.{intake, HasTaken};
 ghost use Rattle.pp_desk.specs.declared.window.TheConstants.{WINDOW_LIMIT};
 ghost use Rattle.pp_desk.specs.Reader.{pending, to_come, GivesLine, last_answer, is_ending};

@@ -1,6 +1,6 @@
 //! Bytes that are held of a source: taken at the end, given up at the front.
 ghost use Rattle.std.specs.Prelude.{◌≡◌, ◌<◌, ◌≤◌, ◌-◌, [], length, take, drop, IfOk};
-ghost use Rattle.pp_base.specs.Fault.{Rose};
+ghost use Rattle.pp_base.specs.Words.{Rose};
 ghost use Rattle.pp_desk.specs.Window.{Fills};
 
 use pp_base::{Memory, Source, SourceRead};

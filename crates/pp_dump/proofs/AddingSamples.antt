@@ -8,19 +8,9 @@ use Rattle.std.proofs.lemmas.List.Sums.{AllPass-from_list_all}
 use Rattle.std.proofs.lemmas.List.{map-append, append-nil}
 use Rattle.std.proofs.lemmas.Grind.{flat_map-append}
 use Rattle.std.proofs.lemmas.List.Elements.{filter_map-append, recursion_from_All}
-use Rattle.pp_base.specs.Front.{IsFront}
+use Rattle.pp_base.specs.Words.{IsFront}
 use Rattle.pp_base.proofs.Lists.{all_append}
-use Rattle.pp_model.specs.declared.frame.Frame.{Frame}
-use Rattle.pp_model.specs.declared.loaded.Loaded.{Loaded}
-use Rattle.pp_model.specs.declared.profile.Label.{Label}
-use Rattle.pp_model.specs.declared.profile.Location.{Location}
-use Rattle.pp_model.specs.declared.profile.Sample.{Sample}
-use Rattle.pp_model.specs.declared.profile.Profile.{Profile}
-use Rattle.pp_model.specs.declared.verdicts.Verdicts.{Verdicts}
-use Rattle.pp_model.specs.Conditions.{IsSampleOf, RefersTo}
-use Rattle.pp_model.specs.Finders.{Finders, HoldsFinders}
-use Rattle.pp_model.specs.Frames.{stack_of}
-use Rattle.pp_model.specs.Rules.{NoRuleFails, IsCompact, label_has_texts}
+use Rattle.pp_model.specs.Words.{Frame, Loaded, Label, Location, Sample, Profile, Verdicts, IsSampleOf, RefersTo, Finders, HoldsFinders, stack_of, NoRuleFails, IsCompact, label_has_texts}
 use Rattle.pp_model.proofs.RuleLemmas.{passes}
 use Rattle.pp_count.specs.Counts.{samples_at}
 use Rattle.pp_stack.specs.Runs.{kept_if}

@@ -3,9 +3,7 @@ use Rattle.std.proofs.Common.{◌≡◌, Bool, true, false, not, ◌==◌, List,
 use Rattle.std.specs.Prelude.{if◌then◌else◌}
 use Rattle.std.specs.List.{flat_map}
 use Rattle.std.specs.Cmp.{nat_eq_equiv}
-use Rattle.pp_model.specs.declared.frame.Frame.{Frame}
-use Rattle.pp_model.specs.declared.profile.Profile.{Profile}
-use Rattle.pp_model.specs.FrameTexts.{Written, written}
+use Rattle.pp_model.specs.Words.{Frame, Profile, Written, written}
 use Rattle.pp_count.specs.Seeing.{counted_frames}
 use Rattle.pp_restack.specs.Stacks.{by_place, grouped_with}
 use Rattle.pp_restack.proofs.Grouping.{begins}

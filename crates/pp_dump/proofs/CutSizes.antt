@@ -4,15 +4,7 @@ use Rattle.std.specs.Prelude.{pos, nat_abs, slice_index_or}
 use Rattle.std.specs.List.{flat_map, sum_by}
 use Rattle.std.specs.Option.{option_map_or}
 use Rattle.std.proofs.lemmas.List.Sums.{sum_by-cons, sum_by-take-drop}
-use Rattle.pp_model.specs.declared.frame.Frame.{Frame}
-use Rattle.pp_model.specs.declared.loaded.Loaded.{Loaded}
-use Rattle.pp_model.specs.declared.profile.Location.{Location}
-use Rattle.pp_model.specs.declared.profile.Sample.{Sample}
-use Rattle.pp_model.specs.declared.profile.Profile.{Profile}
-use Rattle.pp_model.specs.declared.verdicts.Verdicts.{Verdicts}
-use Rattle.pp_model.specs.Conditions.{HasVerdicts}
-use Rattle.pp_model.specs.Finders.{Finders, no_parts}
-use Rattle.pp_model.specs.Sizes.{IsCountable}
+use Rattle.pp_model.specs.Words.{Frame, Loaded, Location, Sample, Profile, Verdicts, HasVerdicts, Finders, no_parts, IsCountable}
 use Rattle.pp_stack.specs.Filters.{frames_of_sample}
 use Rattle.pp_count.specs.Counts.{samples_at}
 use Rattle.pp_count.specs.Rising.{AreRisingBetween}

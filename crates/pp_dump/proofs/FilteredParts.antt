@@ -2,8 +2,7 @@
 use Rattle.std.proofs.Common.{ℕ, Bool, true, false, List, take, drop, filter, Option, Some, None, option_map, IfSome}
 use Rattle.std.specs.Prelude.{◌==◌, not, position, if◌then◌else◌}
 use Rattle.std.specs.Option.{option_map_or}
-use Rattle.pp_model.specs.Finders.{Finder, Finders}
-use Rattle.pp_model.specs.FrameTexts.{Written}
+use Rattle.pp_model.specs.Words.{Finder, Finders, Written}
 use Rattle.pp_stack.specs.Runs.{through_last, up_to_last, from_first, pruned_frames}
 use Rattle.pp_stack.specs.Filters.{finds_frame, finds_function, is_prunable, load_pruned, is_kept, not_hidden, frames_shown, cut, shown_from, pruned_from, is_emptied, left_of_cut, filtered}
 

@@ -8,18 +8,11 @@ use Rattle.std.proofs.lemmas.List.Elements.{All-from_recursion, recursion_from_A
 use Rattle.std.proofs.lemmas.Map.Made.{AllPairs-from_IsDistinct}
 use Rattle.std.proofs.lemmas.Option.{none-some, same_Some}
 use Rattle.pp_base.proofs.Lists.{all_by}
-use Rattle.pp_model.specs.declared.frame.Frame.{Frame}
-use Rattle.pp_model.specs.declared.profile.Sample.{Sample}
-use Rattle.pp_model.specs.declared.profile.Profile.{Profile}
-use Rattle.pp_model.specs.declared.filtering.Filtering.{Filtering}
-use Rattle.pp_model.specs.Conditions.{RefersTo}
-use Rattle.pp_model.specs.Finders.{Finders}
-use Rattle.pp_model.specs.Rules.{NoRuleFails, IsCompact}
+use Rattle.pp_model.specs.Words.{Frame, Sample, Profile, Filtering, RefersTo, Finders, NoRuleFails, IsCompact, distinct}
 use Rattle.pp_model.proofs.RuleLemmas.{passes, refers_from_valid, sample_at}
 use Rattle.pp_count.specs.Seeing.{filtered_stack}
 use Rattle.pp_share.specs.Alike.{same_location, same_sample}
 use Rattle.pp_share.specs.Described.{LocationText, SampleText, less, start_of}
-use Rattle.pp_model.specs.FirstSight.{distinct}
 use Rattle.pp_merge.specs.Merge.{all_mappings, contents, merged}
 use Rattle.pp_merge.specs.Settled.{IsSettled}
 use Rattle.pp_share.specs.Sums.{counts, keys_of, summed, sum_of}

@@ -3,7 +3,7 @@ use Rattle.std.proofs.Common.{◌≡◌, ℕ, ltb, ⊎_elim, true, false, List, 
 use Rattle.std.specs.List.{slice_get}
 use Rattle.std.proofs.lemmas.Bool.{false≢true, lt-ltb}
 use Rattle.std.proofs.lemmas.Option.{slice_get_read, slice_get_cases}
-use Rattle.pp_model.specs.declared.profile.Sample.{Sample}
+use Rattle.pp_model.specs.Words.{Sample}
 
 -- the number is one of a sample
 pub looked_up : (ss : List Sample) (n : ℕ) (s : Sample) → true ≡ ltb n (length ss) → s ≡ get_or ss n s → slice_get ss n ≡ Some s

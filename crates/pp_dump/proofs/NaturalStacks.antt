@@ -7,19 +7,12 @@ use Rattle.std.proofs.lemmas.Bool.{eqb-true}
 use Rattle.std.proofs.lemmas.Int.{ints}
 use Rattle.std.proofs.lemmas.List.Elements.{recursion_from_All}
 use Rattle.std.proofs.lemmas.Option.{none-some, same_Some}
-use Rattle.pp_model.specs.declared.config.Config.{Config}
-use Rattle.pp_model.specs.declared.frame.Frame.{Frame}
-use Rattle.pp_model.specs.declared.profile.Sample.{Sample}
-use Rattle.pp_model.specs.declared.profile.Profile.{Profile}
-use Rattle.pp_model.specs.Finders.{Finders, no_finders}
-use Rattle.pp_model.specs.FrameTexts.{Written}
-use Rattle.pp_model.specs.Rules.{NoRuleFails}
+use Rattle.pp_model.specs.Words.{Config, Frame, Sample, Profile, Finders, no_finders, Written, NoRuleFails, distinct}
 use Rattle.pp_model.proofs.RuleLemmas.{passes}
 use Rattle.pp_count.specs.Seeing.{filtered_stack, seen_samples}
 use Rattle.pp_count.specs.Sums.{Seen}
 use Rattle.pp_share.specs.Alike.{same_sample}
 use Rattle.pp_share.specs.Described.{SampleText}
-use Rattle.pp_model.specs.FirstSight.{distinct}
 use Rattle.pp_merge.specs.Settled.{IsSettled}
 use Rattle.pp_share.specs.Sums.{counts, keys_of, rows_of, summed, sum_of}
 use Rattle.pp_merge.proofs.MergedTotals.{at_total}

@@ -4,16 +4,7 @@ use Rattle.std.specs.Prelude.{Option, Some, None, option_map}
 use Rattle.std.specs.List.{AllByRecursion, cons_option, slice_get}
 use Rattle.std.specs.Option.{option_and_then, option_map_or}
 use Rattle.std.proofs.lemmas.Option.{slice_get-get_or}
-use Rattle.pp_model.specs.declared.frame.Frame.{Frame}
-use Rattle.pp_model.specs.declared.profile.Function.{Function}
-use Rattle.pp_model.specs.declared.profile.Line.{Line}
-use Rattle.pp_model.specs.declared.profile.Location.{Location}
-use Rattle.pp_model.specs.declared.profile.Mapping.{Mapping}
-use Rattle.pp_model.specs.declared.profile.Profile.{Profile}
-use Rattle.pp_model.specs.Conditions.{location_at, IsFrameOf, IsRowOf}
-use Rattle.pp_model.specs.Lookup.{text_number, text_at, text_of, function_with, mapping_with}
-use Rattle.pp_model.specs.Frames.{lines_at, line_at}
-use Rattle.pp_model.specs.FrameTexts.{Written, written, written_line, written_lines, nameless}
+use Rattle.pp_model.specs.Words.{Frame, Function, Line, Location, Mapping, Profile, location_at, IsFrameOf, IsRowOf, text_number, text_at, text_of, function_with, mapping_with, lines_at, line_at, Written, written, written_line, written_lines, nameless}
 use Rattle.pp_share.specs.Described.{FunctionText, MappingText, LineText, LocationText, function_text, mapping_text, function_found, mapping_found, line_text, plus, start_of}
 use Rattle.pp_restack.specs.Stacks.{lines_of_frames, cut_location}
 use Rattle.pp_dump.specs.Stacks.{PlaceText}

@@ -1,11 +1,7 @@
 -- What is said of a saved profile as a whole, and the columns that a report takes of it.
 use Rattle.std.proofs.Common.{◌≡◌, ℕ, List, [], ◌∷◌, map, refl, sym, ap, ◌∙◌}
 use Rattle.std.proofs.lemmas.Simd.{map-map}
-use Rattle.pp_model.specs.declared.profile.Location.{Location}
-use Rattle.pp_model.specs.declared.profile.Sample.{Sample}
-use Rattle.pp_model.specs.declared.profile.Profile.{Profile}
-use Rattle.pp_model.specs.Lookup.{text_of}
-use Rattle.pp_model.specs.Rules.{NoRuleFails}
+use Rattle.pp_model.specs.Words.{Location, Sample, Profile, text_of, NoRuleFails}
 use Rattle.pp_model.proofs.FirstText.{text_zero}
 use Rattle.pp_count.specs.Column.{column_of}
 use Rattle.pp_count.proofs.Columns.{type_names, columns_alike}

@@ -4,15 +4,8 @@ use Rattle.std.proofs.Common.{◌≡◌, ℕ, suc, ◌/◌, ℤ, pos, negsuc, ne
 use Rattle.std.specs.Prelude.{Option, Some, None, option_map, int_div}
 use Rattle.std.specs.List.{filter_map, cons_option}
 use Rattle.std.proofs.lemmas.Simd.{map-map}
-use Rattle.pp_model.specs.declared.config.Config.{Config}
-use Rattle.pp_model.specs.declared.grouping.Grain.{Grain}
-use Rattle.pp_model.specs.declared.frame.Frame.{Frame}
-use Rattle.pp_model.specs.declared.profile.Sample.{Sample}
-use Rattle.pp_model.specs.declared.profile.Profile.{Profile}
-use Rattle.pp_model.specs.Finders.{Finders, no_finders}
-use Rattle.pp_model.specs.FrameTexts.{Written, written}
-use Rattle.pp_model.specs.Sizes.{value_in}
-use Rattle.pp_grain.specs.Keys.{key_texts}
+use Rattle.pp_model.specs.Words.{Config, Grain, Frame, Sample, Profile, Finders, no_finders, Written, written, value_in}
+use Rattle.pp_grain.specs.Words.{key_texts}
 use Rattle.pp_count.specs.Seeing.{counted_frames, keys_of_stack, filtered_stack, seen_with, seen, seen_samples}
 use Rattle.pp_count.specs.Sums.{Seen, sum_where}
 use Rattle.pp_merge.specs.Totals.{value_passing, sum_passing}

@@ -6,16 +6,7 @@ use Rattle.std.proofs.lemmas.Bool.{eqb-true}
 use Rattle.std.proofs.lemmas.List.{length-map}
 use Rattle.std.proofs.lemmas.List.Elements.{All-tail, recursion_from_All}
 use Rattle.pp_base.proofs.Lists.{all_by}
-use Rattle.pp_model.specs.declared.frame.Frame.{Frame}
-use Rattle.pp_model.specs.declared.profile.Line.{Line}
-use Rattle.pp_model.specs.declared.profile.Location.{Location}
-use Rattle.pp_model.specs.declared.profile.Sample.{Sample}
-use Rattle.pp_model.specs.declared.profile.Profile.{Profile}
-use Rattle.pp_model.specs.Conditions.{location_at, IsFrameOf, RefersTo}
-use Rattle.pp_model.specs.Finders.{Finders}
-use Rattle.pp_model.specs.Frames.{row_frame, rows, frames_from, lines_at, stack_of}
-use Rattle.pp_model.specs.FrameTexts.{written}
-use Rattle.pp_model.specs.Rules.{AreNumbered, location_ids}
+use Rattle.pp_model.specs.Words.{Frame, Line, Location, Sample, Profile, location_at, IsFrameOf, RefersTo, Finders, row_frame, rows, frames_from, lines_at, stack_of, written, AreNumbered, location_ids}
 use Rattle.pp_model.proofs.CompactLemmas.{place_within}
 use Rattle.pp_model.proofs.FrameLemmas.{rows_of_profile}
 use Rattle.pp_stack.specs.Filters.{frames_of_sample}

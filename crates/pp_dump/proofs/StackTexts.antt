@@ -4,16 +4,7 @@ use Rattle.std.specs.Prelude.{Option, Some, None, option_map, unwrap_or, IfSome,
 use Rattle.std.specs.List.{AllByRecursion, filter_map, cons_option}
 use Rattle.std.specs.Option.{option_map_or}
 use Rattle.pp_base.proofs.Lists.{all_by}
-use Rattle.pp_model.specs.declared.frame.Frame.{Frame}
-use Rattle.pp_model.specs.declared.profile.Location.{Location}
-use Rattle.pp_model.specs.declared.profile.Sample.{Sample}
-use Rattle.pp_model.specs.declared.profile.Profile.{Profile}
-use Rattle.pp_model.specs.declared.filtering.Filtering.{Filtering}
-use Rattle.pp_model.specs.Conditions.{no_location, location_at, RefersTo}
-use Rattle.pp_model.specs.Finders.{Finders}
-use Rattle.pp_model.specs.Lookup.{text_at, text_of}
-use Rattle.pp_model.specs.FrameTexts.{written_lines}
-use Rattle.pp_model.specs.Rules.{AreNumbered, location_ids}
+use Rattle.pp_model.specs.Words.{Frame, Location, Sample, Profile, Filtering, no_location, location_at, RefersTo, Finders, text_at, text_of, written_lines, AreNumbered, location_ids}
 use Rattle.pp_stack.specs.Filters.{frames_of_sample}
 use Rattle.pp_tags.specs.TagFilters.{shown_labels}
 use Rattle.pp_count.specs.Seeing.{filtered_stack, passes_tags}

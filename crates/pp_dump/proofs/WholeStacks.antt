@@ -6,19 +6,8 @@ use Rattle.std.proofs.lemmas.List.{length-map, same_lists, get_or_default}
 use Rattle.std.proofs.lemmas.List.Elements.{All-nil, All-cons, All-tail, recursion_from_All}
 use Rattle.std.proofs.lemmas.List.FromFn.{length-range_with_len, get_or-range_with_len, get_or-map-range_with_len}
 use Rattle.std.proofs.lemmas.Option.{slice_get-get_or}
-use Rattle.pp_base.specs.Front.{IsFront}
-use Rattle.pp_model.specs.declared.frame.Frame.{Frame}
-use Rattle.pp_model.specs.declared.profile.Label.{Label}
-use Rattle.pp_model.specs.declared.profile.Line.{Line}
-use Rattle.pp_model.specs.declared.profile.Location.{Location}
-use Rattle.pp_model.specs.declared.profile.Sample.{Sample}
-use Rattle.pp_model.specs.declared.profile.Profile.{Profile}
-use Rattle.pp_model.specs.declared.filtering.Filtering.{Filtering}
-use Rattle.pp_model.specs.Conditions.{no_location, location_at, RefersTo}
-use Rattle.pp_model.specs.Lookup.{text_of, location_with}
-use Rattle.pp_model.specs.Frames.{row_frame, rows, frames_from, stack_of}
-use Rattle.pp_model.specs.FrameTexts.{written, written_at}
-use Rattle.pp_model.specs.Rules.{NoRuleFails, AreNumbered, location_ids}
+use Rattle.pp_base.specs.Words.{IsFront}
+use Rattle.pp_model.specs.Words.{Frame, Label, Line, Location, Sample, Profile, Filtering, no_location, location_at, RefersTo, text_of, location_with, row_frame, rows, frames_from, stack_of, written, written_at, NoRuleFails, AreNumbered, location_ids, no_finders}
 use Rattle.pp_model.proofs.CompactLemmas.{find_numbered, one_le_id, place_within}
 use Rattle.pp_model.proofs.FrameLemmas.{frames_written}
 use Rattle.pp_model.proofs.RuleLemmas.{refers_from_valid, sample_at}
@@ -29,7 +18,6 @@ use Rattle.pp_share.specs.Described.{label_text}
 use Rattle.pp_restack.specs.Places.{AreEntries, IsWithin, entry_in, without_id}
 use Rattle.pp_restack.specs.Stacks.{by_place, lines_of_frames, cut_location}
 use Rattle.pp_dump.specs.Stacks.{location_place, whole_place, left_place, whole_stack, left_stack, whole_stacks, left_stacks}
-use Rattle.pp_model.specs.Finders.{no_finders}
 use Rattle.pp_restack.proofs.Grouping.{alone, joined}
 use Rattle.pp_restack.proofs.Placing.{entries_still, all_within_still}
 use Rattle.pp_dump.proofs.StackGroups.{rows_place, places_from}

@@ -2,17 +2,8 @@
 use Rattle.std.specs.Prelude.{◌≡◌, ℕ, ◌<◌, ◌^◌, Bool, true, Some, List, [], ◌∷◌, ◌++◌, map}
 use Rattle.std.specs.List.{flat_map, AllByRecursion}
 use Rattle.std.specs.Option.{option_map_or}
-use Rattle.pp_base.specs.Front.{IsFront}
-use Rattle.pp_model.specs.declared.frame.Frame.{Frame}
-use Rattle.pp_model.specs.declared.loaded.Loaded.{Loaded}
-use Rattle.pp_model.specs.declared.profile.Location.{Location}
-use Rattle.pp_model.specs.declared.profile.Sample.{Sample}
-use Rattle.pp_model.specs.declared.profile.Profile.{Profile}
-use Rattle.pp_model.specs.declared.verdicts.Verdicts.{Verdicts}
-use Rattle.pp_model.specs.Conditions.{HasVerdicts}
-use Rattle.pp_model.specs.Finders.{Finders, HoldsFinders}
-use Rattle.pp_model.specs.Frames.{stack_of}
-use Rattle.pp_model.specs.Rules.{NoRuleFails, IsCompact}
+use Rattle.pp_base.specs.Words.{IsFront}
+use Rattle.pp_model.specs.Words.{Frame, Loaded, Location, Sample, Profile, Verdicts, HasVerdicts, Finders, HoldsFinders, stack_of, NoRuleFails, IsCompact}
 use Rattle.pp_count.specs.Counts.{samples_at}
 use Rattle.pp_stack.specs.Filters.{frames_of_sample}
 use Rattle.pp_stack.specs.Runs.{kept_if}

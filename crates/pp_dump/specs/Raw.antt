@@ -4,16 +4,8 @@ use Rattle.std.specs.Fmt.{digits, signed_decimal}
 use Rattle.std.specs.List.{flat_map}
 use Rattle.std.specs.Option.{option_map_or}
 use Rattle.std.specs.Ordering.{int_eq}
-use Rattle.pp_model.specs.declared.profile.ValueType.{ValueType}
-use Rattle.pp_model.specs.declared.profile.Label.{Label}
-use Rattle.pp_model.specs.declared.profile.Sample.{Sample}
-use Rattle.pp_model.specs.declared.profile.Mapping.{Mapping}
-use Rattle.pp_model.specs.declared.profile.Line.{Line}
-use Rattle.pp_model.specs.declared.profile.Location.{Location}
-use Rattle.pp_model.specs.declared.profile.Function.{Function}
-use Rattle.pp_model.specs.declared.profile.Profile.{Profile}
-use Rattle.pp_model.specs.Lookup.{text_of, function_with}
-use Rattle.pp_units.specs.Numbers.{right_text}
+use Rattle.pp_model.specs.Words.{ValueType, Label, Sample, Mapping, Line, Location, Function, Profile, text_of, function_with}
+use Rattle.pp_units.specs.Words.{right_text}
 use Rattle.pp_tags.specs.Labels.{has_text}
 
 -- the words of the items, with a space between each two

@@ -1,12 +1,7 @@
 -- The profile that the raw and proto reports show: what the filters of a report leave of a profile.
 use Rattle.std.specs.Prelude.{ℤ, List, map, option_map}
 use Rattle.std.specs.List.{filter_map}
-use Rattle.pp_model.specs.declared.frame.Frame.{Frame}
-use Rattle.pp_model.specs.declared.profile.Sample.{Sample}
-use Rattle.pp_model.specs.declared.profile.Profile.{Profile}
-use Rattle.pp_model.specs.declared.filtering.Filtering.{Filtering}
-use Rattle.pp_model.specs.Finders.{Finders}
-use Rattle.pp_model.specs.Lookup.{text_of}
+use Rattle.pp_model.specs.Words.{Frame, Sample, Profile, Filtering, Finders, text_of}
 use Rattle.pp_tags.specs.TagFilters.{shown_labels}
 use Rattle.pp_count.specs.Seeing.{filtered_stack}
 use Rattle.pp_share.specs.Described.{SampleText, label_text}

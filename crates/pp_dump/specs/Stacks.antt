@@ -1,15 +1,7 @@
 -- What a saved profile keeps of the stacks that the filters of a report leave.
 use Rattle.std.specs.Prelude.{◌≡◌, ◌≢◌, ℕ, ◌<◌, ℤ, Bool, true, List, map, length, Option, option_map, unwrap_or, All, AllPairs, Contains}
 use Rattle.std.specs.List.{filter_map}
-use Rattle.pp_model.specs.declared.frame.Frame.{Frame}
-use Rattle.pp_model.specs.declared.profile.Location.{Location}
-use Rattle.pp_model.specs.declared.profile.Sample.{Sample}
-use Rattle.pp_model.specs.declared.profile.Profile.{Profile}
-use Rattle.pp_model.specs.declared.filtering.Filtering.{Filtering}
-use Rattle.pp_model.specs.Conditions.{no_location}
-use Rattle.pp_model.specs.Finders.{Finders}
-use Rattle.pp_model.specs.Lookup.{location_with, text_of}
-use Rattle.pp_model.specs.FrameTexts.{Written, written, written_at}
+use Rattle.pp_model.specs.Words.{Frame, Location, Sample, Profile, Filtering, no_location, Finders, location_with, text_of, Written, written, written_at}
 use Rattle.pp_tags.specs.TagFilters.{shown_labels}
 use Rattle.pp_count.specs.Seeing.{filtered_stack}
 use Rattle.pp_share.specs.Described.{MappingText, LineText, LabelText, function_found, mapping_found, line_text, label_text}

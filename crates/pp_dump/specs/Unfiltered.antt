@@ -1,10 +1,7 @@
 -- What a report that has no filters counts on a saved profile, and by which columns.
 use Rattle.std.specs.Prelude.{◌≡◌, ℕ, ◌<◌, pos, ◌≤ℤ◌, Bool, List, [], length, Some, All}
 use Rattle.std.specs.List.{list_any}
-use Rattle.pp_model.specs.declared.config.Config.{Config}
-use Rattle.pp_model.specs.declared.profile.Profile.{Profile}
-use Rattle.pp_model.specs.Finders.{Finders, no_finders}
-use Rattle.pp_model.specs.FrameTexts.{Written}
+use Rattle.pp_model.specs.Words.{Config, Profile, Finders, no_finders, Written}
 use Rattle.pp_share.specs.Header.{header_of}
 use Rattle.pp_count.specs.Column.{column_of}
 use Rattle.pp_count.specs.Seeing.{seen_samples}

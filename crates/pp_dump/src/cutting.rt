@@ -1,6 +1,6 @@
 //! What the filters of a report leave of the samples of a profile.
 ghost use Rattle.std.specs.Prelude.{◌≡◌, ◌∷◌, [], IfOk, OnOk};
-ghost use Rattle.pp_model.specs.Conditions.{IsSampleOf, RefersTo};
+ghost use Rattle.pp_model.specs.Words.{IsSampleOf, RefersTo};
 ghost use Rattle.pp_count.specs.Counts.{samples_at};
 ghost use Rattle.pp_dump.specs.Places.{CanCut, AddsSamples, PlacesLeft};
 

@@ -1,7 +1,7 @@
 //! Numbers and flags in the lines of a report.
 ghost use Rattle.std.specs.Prelude.{◌≡◌, ◌++◌, codes, decimal, IfOk};
 ghost use Rattle.std.specs.Fmt.{signed_decimal};
-ghost use Rattle.pp_units.specs.Numbers.{right_text};
+ghost use Rattle.pp_units.specs.Words.{right_text};
 ghost use Rattle.pp_dump.specs.Raw.{hex, flag_text};
 
 use itoa::Buffer;

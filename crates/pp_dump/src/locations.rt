@@ -2,9 +2,8 @@
 ghost use Rattle.std.specs.Prelude.{◌≡◌, ◌++◌, codes, decimal, IfOk};
 ghost use Rattle.std.specs.List.{flat_map};
 ghost use Rattle.std.specs.Option.{option_copied};
-ghost use Rattle.pp_model.specs.Rules.{IsCompact};
-ghost use Rattle.pp_model.specs.Lookup.{function_with, place_read};
-ghost use Rattle.pp_units.specs.Numbers.{right_text};
+ghost use Rattle.pp_model.specs.Words.{IsCompact, function_with, place_read};
+ghost use Rattle.pp_units.specs.Words.{right_text};
 ghost use Rattle.pp_dump.specs.Raw.{locations_text, location_lines, location_line, place_word, mapping_word, line_line, named_line, line_place, function_words, first_line_of, column_word, mappings_text, mapping_line, range_word, file_words, flags_text};
 
 use crate::digits::{put_decimal, put_flag, put_hex, put_signed};

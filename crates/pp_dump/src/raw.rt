@@ -1,8 +1,7 @@
 //! The raw report: the tables of a profile in lines.
 ghost use Rattle.std.specs.Prelude.{◌≡◌, ◌++◌, codes, IfOk, OnOk, OnErr};
 ghost use Rattle.std.specs.List.{flat_map};
-ghost use Rattle.pp_model.specs.Rules.{IsCompact};
-ghost use Rattle.pp_model.specs.Lookup.{text_of};
+ghost use Rattle.pp_model.specs.Words.{IsCompact, text_of};
 ghost use Rattle.pp_dump.specs.Raw.{raw_text, header_text, raw_comment, url_line, is_unknown, known_type_line, period_type_line, number_line, numbers_text, tables_text};
 
 use crate::digits::put_signed;

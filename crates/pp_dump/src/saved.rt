@@ -1,12 +1,7 @@
 //! The profile that is saved.
 ghost use Rattle.std.specs.Prelude.{◌≡◌, ◌<◌, ◌^◌, [], length, IfOk};
 ghost use Rattle.std.specs.List.{AllByRecursion};
-ghost use Rattle.pp_model.specs.declared.config.Config.{Config};
-ghost use Rattle.pp_model.specs.declared.filtering.Filtering.{Filtering};
-ghost use Rattle.pp_model.specs.Conditions.{HasVerdicts};
-ghost use Rattle.pp_model.specs.Finders.{Finders};
-ghost use Rattle.pp_model.specs.Rules.{NoRuleFails};
-ghost use Rattle.pp_model.specs.Sizes.{IsCountable};
+ghost use Rattle.pp_model.specs.Words.{Config, Filtering, HasVerdicts, Finders, NoRuleFails, IsCountable};
 ghost use Rattle.pp_merge.specs.Merge.{merged};
 ghost use Rattle.pp_stack.specs.Tables.{AreTables};
 ghost use Rattle.pp_count.specs.Counts.{samples_at};

@@ -1,7 +1,7 @@
 //! Samples whose stacks stay whole, copied in pieces on the lanes.
 ghost use Rattle.std.specs.Prelude.{[], ◌∷◌, IfOk, OnOk};
 ghost use Rattle.std.proofs.Props.{props};
-ghost use Rattle.pp_model.specs.Conditions.{HasVerdicts, IsSampleOf, RefersTo};
+ghost use Rattle.pp_model.specs.Words.{HasVerdicts, IsSampleOf, RefersTo};
 ghost use Rattle.pp_dump.specs.Places.{AddsSamples, AreCopies, StaysWhole};
 
 use pp_base::{List, Memory};

@@ -8,14 +8,9 @@ use Rattle.std.proofs.lemmas.List.Elements.{recursion_from_All, All-filter}
 use Rattle.std.proofs.lemmas.List.Sums.{AllPass-from_list_all, list_all-from_AllPass}
 use Rattle.std.proofs.lemmas.Bool.{and_from}
 use Rattle.std.proofs.lemmas.List.Folds.{list_all-append}
-use Rattle.pp_base.specs.Front.{IsFront}
+use Rattle.pp_base.specs.Words.{IsFront}
 use Rattle.pp_base.proofs.Lists.{own_front}
-use Rattle.pp_model.specs.declared.profile.Label.{Label}
-use Rattle.pp_model.specs.declared.profile.Sample.{Sample}
-use Rattle.pp_model.specs.declared.profile.Profile.{Profile}
-use Rattle.pp_model.specs.Rules.{NoRuleFails, IsCompact, label_has_texts}
-use Rattle.pp_model.specs.Sizes.{IsCountable, value_in}
-use Rattle.pp_model.specs.Lookup.{text_of}
+use Rattle.pp_model.specs.Words.{Label, Sample, Profile, NoRuleFails, IsCompact, label_has_texts, IsCountable, value_in, text_of}
 use Rattle.pp_model.proofs.RuleLemmas.{passes}
 use Rattle.pp_share.specs.Described.{LabelText, label_text}
 use Rattle.pp_share.proofs.SampleKeyLemmas.{sum_by-map}

@@ -6,17 +6,9 @@ use Rattle.std.specs.Option.{option_map_or}
 use Rattle.std.proofs.lemmas.List.{get_or_append_left}
 use Rattle.std.proofs.lemmas.List.Elements.{recursion_from_All}
 use Rattle.std.proofs.lemmas.Bool.{and_parts}
-use Rattle.pp_base.specs.Front.{IsFront}
+use Rattle.pp_base.specs.Words.{IsFront}
 use Rattle.pp_base.proofs.Lists.{all_by}
-use Rattle.pp_model.specs.declared.profile.Label.{Label}
-use Rattle.pp_model.specs.declared.profile.Line.{Line}
-use Rattle.pp_model.specs.declared.profile.Location.{Location}
-use Rattle.pp_model.specs.declared.profile.Mapping.{Mapping}
-use Rattle.pp_model.specs.declared.profile.Function.{Function}
-use Rattle.pp_model.specs.declared.profile.Profile.{Profile}
-use Rattle.pp_model.specs.Rules.{NoRuleFails, begins_empty, label_has_texts, function_has_texts, mapping_has_texts}
-use Rattle.pp_model.specs.Lookup.{text_number, text_at, text_of, location_with}
-use Rattle.pp_model.specs.FrameTexts.{name_number, file_number, object_number, written_lines, written_at}
+use Rattle.pp_model.specs.Words.{Label, Line, Location, Mapping, Function, Profile, NoRuleFails, begins_empty, label_has_texts, function_has_texts, mapping_has_texts, text_number, text_at, text_of, location_with, name_number, file_number, object_number, written_lines, written_at}
 use Rattle.pp_model.proofs.RuleLemmas.{passes, text_below}
 use Rattle.pp_model.proofs.FirstText.{no_fault, some_text, begins_then}
 use Rattle.pp_share.specs.Described.{label_text}

@@ -9,12 +9,8 @@ use Rattle.std.proofs.Math.ListN.{get_or-map}
 use Rattle.std.proofs.lemmas.Bool.{lt-ltb, le-ltb}
 use Rattle.std.proofs.lemmas.Map.Made.{AllPairs-from_IsDistinct, IsDistinct-from_AllPairs}
 use Rattle.std.proofs.lemmas.Slice.Eq.{bytes_eq-Decides}
-use Rattle.pp_base.specs.Front.{IsFront}
-use Rattle.pp_model.specs.declared.profile.Label.{Label}
-use Rattle.pp_model.specs.declared.profile.Sample.{Sample}
-use Rattle.pp_model.specs.declared.profile.Profile.{Profile}
-use Rattle.pp_model.specs.FirstSight.{place_of, seen_with, seen_after}
-use Rattle.pp_model.specs.Lookup.{text_number}
+use Rattle.pp_base.specs.Words.{IsFront}
+use Rattle.pp_model.specs.Words.{Label, Sample, Profile, place_of, seen_with, seen_after, text_number}
 use Rattle.pp_model.proofs.FirstSightLemmas.{apart_seen_after, place-seen_after, place_when_seen, seen_now}
 use Rattle.pp_share.proofs.DistinctLemmas.{deciding_laws, place_below}
 use Rattle.pp_share.specs.Described.{LabelText}

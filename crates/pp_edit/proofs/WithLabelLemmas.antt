@@ -9,12 +9,7 @@ use Rattle.std.proofs.lemmas.Bool.{and_from, lt-ltb, or_right}
 use Rattle.std.proofs.lemmas.Bool.Decides.{Decides-int_eq}
 use Rattle.std.proofs.lemmas.List.Folds.{list_any-append}
 use Rattle.std.proofs.lemmas.Slice.Eq.{bytes_eq-Decides}
-use Rattle.pp_model.specs.declared.profile.Label.{Label}
-use Rattle.pp_model.specs.declared.profile.Profile.{Profile}
-use Rattle.pp_model.specs.Rules.{NoRuleFails, IsCompact, begins_empty, label_has_texts}
-use Rattle.pp_model.specs.Sizes.{IsCountable}
-use Rattle.pp_model.specs.FirstSight.{place_of, seen_after}
-use Rattle.pp_model.specs.Lookup.{text_number, text_of}
+use Rattle.pp_model.specs.Words.{Label, Profile, NoRuleFails, IsCompact, begins_empty, label_has_texts, IsCountable, place_of, seen_after, text_number, text_of}
 use Rattle.pp_model.proofs.FirstSightLemmas.{IsSeen, all_seen}
 use Rattle.pp_model.proofs.FirstText.{first_empty}
 use Rattle.pp_share.specs.Described.{LabelText, label_text}

@@ -1,8 +1,7 @@
 -- The key of labels that are taken off, as a verdict on each text. No public clause cites it.
 use Rattle.std.specs.Prelude.{◌≡◌, ℕ, Bool, List, [], map, slice_index_or}
 use Rattle.std.specs.Str.{bytes_eq}
-use Rattle.pp_model.specs.declared.profile.Label.{Label}
-use Rattle.pp_model.specs.Lookup.{text_number}
+use Rattle.pp_model.specs.Words.{Label, text_number}
 use Rattle.pp_edit.specs.declared.key.LabelKey.{LabelKey}
 
 -- The verdicts are those of these texts on this key.

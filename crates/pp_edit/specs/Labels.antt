@@ -3,11 +3,7 @@ use Rattle.std.specs.Prelude.{ℕ, Bool, ◌&&◌, not, ℤ, pos, List, [], ◌�
 use Rattle.std.specs.List.{filter, list_any}
 use Rattle.std.specs.Ordering.{int_eq}
 use Rattle.std.specs.Str.{bytes_eq}
-use Rattle.pp_model.specs.declared.profile.Label.{Label}
-use Rattle.pp_model.specs.declared.profile.Sample.{Sample}
-use Rattle.pp_model.specs.declared.profile.Profile.{Profile}
-use Rattle.pp_model.specs.FirstSight.{place_of, seen_after}
-use Rattle.pp_model.specs.Lookup.{text_of}
+use Rattle.pp_model.specs.Words.{Label, Sample, Profile, place_of, seen_after, text_of}
 use Rattle.pp_share.specs.Described.{LabelText}
 use Rattle.pp_tags.specs.Labels.{has_text}
 use Rattle.pp_build.specs.Said.{SaidSample}

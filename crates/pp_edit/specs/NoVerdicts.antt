@@ -1,8 +1,6 @@
 -- The verdicts of a report that asks for no pattern.
 use Rattle.std.specs.Prelude.{◌≡◌, [], None}
-use Rattle.pp_model.specs.declared.loaded.Loaded.{Loaded}
-use Rattle.pp_model.specs.declared.verdicts.Verdicts.{Verdicts}
-use Rattle.pp_model.specs.Finders.{HoldsFinders, no_finders}
+use Rattle.pp_model.specs.Words.{Loaded, Verdicts, HoldsFinders, no_finders}
 
 -- no pattern is in force
 abbrev pub no_verdicts : Verdicts

@@ -1,7 +1,7 @@
 //! Labels that a sample has.
 ghost use Rattle.std.specs.Prelude.{◌≡◌, bytes_eq, codes, find};
 ghost use Rattle.std.specs.Option.{option_copied};
-ghost use Rattle.pp_model.specs.Lookup.{text_of};
+ghost use Rattle.pp_model.specs.Words.{text_of};
 ghost use Rattle.pp_edit.specs.Labels.{is_keyed_by, has_label};
 
 use pp_model::{Label, Profile, Sample, text_of};

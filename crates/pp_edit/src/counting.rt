@@ -1,7 +1,7 @@
 //! Whether a profile can be counted.
 ghost use Rattle.std.specs.Prelude.{◌↔◌, ℕ, ◌<◌, ◌≤◌, ◌^◌, ◌-◌, nat_abs, IsTrue};
 ghost use Rattle.std.specs.List.{sum_by};
-ghost use Rattle.pp_model.specs.Sizes.{IsCountable, value_in};
+ghost use Rattle.pp_model.specs.Words.{IsCountable, value_in};
 
 use pp_model::{Profile, Sample, value_in};
 

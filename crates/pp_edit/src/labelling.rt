@@ -2,9 +2,7 @@
 ghost use Rattle.std.specs.Prelude.{◌≡◌, ◌≢◌, ◌∷◌, [], true, All, IfOk, OnOk, map, not};
 ghost use Rattle.std.specs.List.{filter};
 ghost use Rattle.std.specs.Str.{bytes_eq};
-ghost use Rattle.pp_model.specs.FirstSight.{seen_after};
-ghost use Rattle.pp_model.specs.Rules.{IsCompact};
-ghost use Rattle.pp_model.specs.Sizes.{IsCountable};
+ghost use Rattle.pp_model.specs.Words.{seen_after, IsCompact, IsCountable};
 ghost use Rattle.pp_build.specs.Said.{said_samples};
 ghost use Rattle.pp_edit.specs.Keys.{names_key};
 ghost use Rattle.pp_edit.specs.Labels.{has_label, has_number, label_in, number_label, relabelled, relabelled_sample, said_with, said_without, text_label, with_label_set, without_label};

@@ -1,7 +1,7 @@
 //! Texts that are found in a profile's table, or added to it.
 ghost use Rattle.std.specs.Prelude.{◌≡◌, pos, IfOk, OnOk, position};
 ghost use Rattle.std.specs.Str.{bytes_eq};
-ghost use Rattle.pp_model.specs.FirstSight.{place_of, seen_with};
+ghost use Rattle.pp_model.specs.Words.{place_of, seen_with};
 
 use pp_base::{List, Memory, Text};
 use std::alloc::Global;

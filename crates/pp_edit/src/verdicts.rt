@@ -1,7 +1,6 @@
 //! What a report is made of where no pattern is asked.
 ghost use Rattle.std.specs.Prelude.{◌≡◌, None};
-ghost use Rattle.pp_model.specs.declared.profile.Profile.{Profile};
-ghost use Rattle.pp_model.specs.Conditions.{HasVerdicts};
+ghost use Rattle.pp_model.specs.Words.{Profile, HasVerdicts};
 ghost use Rattle.pp_edit.specs.NoVerdicts.{HoldsNone, no_verdicts};
 
 use pp_base::List;

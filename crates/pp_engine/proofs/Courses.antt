@@ -2,13 +2,8 @@
 use Rattle.std.proofs.Common.{◌≡◌, ℕ, Bool, true, false, Option, List, [], ◌∷◌, ◌++◌, drop, length, refl, sym, ◌∙◌, ap}
 use Rattle.std.proofs.Math.Seq.{drop-nil}
 use Rattle.std.proofs.lemmas.Bool.{false≢true}
-use Rattle.pp_base.specs.FileMap.{FileMap, content_at}
-use Rattle.pp_base.specs.Judges.{Answer}
-use Rattle.pp_desk.specs.declared.input_line.InputLine.{InputLine}
-use Rattle.pp_desk.specs.Course.{Course, course, does, asks}
-use Rattle.pp_desk.specs.Effects.{Effect, ToOut, ToErr, FromFile, outs, errs, files_after}
-use Rattle.pp_desk.specs.Script.{Script, Give, Make, Step, WriteOut, WriteErr, ReadFile, WriteFile, Ask, NextLine, ◌>>=◌}
-use Rattle.pp_desk.specs.Went.{content_within}
+use Rattle.pp_base.specs.Words.{FileMap, content_at, Answer}
+use Rattle.pp_desk.specs.Words.{InputLine, Course, course, does, asks, Effect, ToOut, ToErr, FromFile, outs, errs, files_after, Script, Give, Make, Step, WriteOut, WriteErr, ReadFile, WriteFile, Ask, NextLine, ◌>>=◌, content_within}
 use Rattle.pp_desk.proofs.Quiet.{Only}
 
 -- a step that writes no file and reads no line

@@ -1,7 +1,6 @@
 -- A line that is written as far as a sink takes it.
 use Rattle.std.proofs.Common.{ℕ, List, [], Option, Result, Ok, Err, append-nil, sym}
-use Rattle.pp_base.specs.Writes.{PutsFront, PutsWhole}
-use Rattle.pp_base.specs.declared.whole.WriteFault.{WriteFault}
+use Rattle.pp_base.specs.Words.{PutsFront, PutsWhole, WriteFault}
 use Rattle.pp_base.specs.declared.whole.WriteFault.TheVariants as faults
 use Rattle.pp_base.proofs.CallerLemmas.{some_is_front}
 

@@ -1,14 +1,8 @@
 -- What a script may give, whatever the outside replies.
 use Rattle.std.proofs.Common.{◌≡◌, ℕ, suc, zero, true, false, inl, inr, List, [], ◌∷◌, Option, Some, None, refl, sym, subst}
 use Rattle.std.proofs.lemmas.Bool.{cases_Bool}
-use Rattle.pp_base.specs.FileMap.{FileMap, content_at, with_file, among}
-use Rattle.pp_base.specs.Judges.{Answer}
-use Rattle.pp_desk.specs.declared.input_line.InputLine.{InputLine}
-use Rattle.pp_desk.specs.Course.{course}
-use Rattle.pp_desk.specs.Lines.{next_of, after_next}
-use Rattle.pp_desk.specs.Script.{Script, Give, Make, WriteOut, WriteErr, ReadFile, WriteFile, Ask, NextLine, Reply, ◌>>=◌}
-use Rattle.pp_desk.specs.Went.{Goes, after, content_within}
-use Rattle.pp_desk.specs.World.{Told}
+use Rattle.pp_base.specs.Words.{FileMap, content_at, with_file, among, Answer}
+use Rattle.pp_desk.specs.Words.{InputLine, course, next_of, after_next, Script, Give, Make, WriteOut, WriteErr, ReadFile, WriteFile, Ask, NextLine, Reply, ◌>>=◌, Goes, after, content_within, Told}
 use Rattle.pp_engine.specs.Turns.{turns, given_or}
 
 -- each value that the script may give passes

@@ -3,21 +3,13 @@ use Rattle.std.proofs.Common.{◌≡◌, inl, inr, ℕ, true, false, List, [], �
 use Rattle.std.specs.Prelude.{Bool, Result, Ok, Err, IfOk, IfSome, is_some}
 use Rattle.std.specs.Result.{result_ok}
 use Rattle.std.proofs.lemmas.Bool.{false≢true}
-use Rattle.pp_base.specs.FileMap.{FileMap, content_at}
-use Rattle.pp_base.specs.Judges.{Answer}
-use Rattle.pp_base.specs.Told.{extended, extended-extended, extended-nil}
-use Rattle.pp_desk.specs.declared.input_line.InputLine.{InputLine}
-use Rattle.pp_desk.specs.declared.stop.Stop.{Stop}
+use Rattle.pp_base.specs.Words.{FileMap, content_at, Answer, extended, extended-extended, extended-nil}
+use Rattle.pp_desk.specs.Words.{InputLine, Stop, course, patterns, told_course, Script, Give, Make, Step, WriteOut, WriteErr, ReadFile, WriteFile, Ask, NextLine, Reply, Went, parts, Ways, Goes, Halts, InPart, after, content_within, Told, World}
 use Rattle.pp_desk.specs.declared.stop.Stop.TheVariants as stops
-use Rattle.pp_desk.specs.Course.{course, patterns, told_course}
-use Rattle.pp_desk.specs.Script.{Script, Give, Make, Step, WriteOut, WriteErr, ReadFile, WriteFile, Ask, NextLine, Reply}
-use Rattle.pp_desk.specs.Went.{Went, parts, Ways, Goes, Halts, InPart, after, content_within}
-use Rattle.pp_desk.specs.World.{Told, World}
 use Rattle.pp_desk.proofs.Closing.{given_is}
 use Rattle.pp_desk.proofs.Coursing.{whole_course}
 use Rattle.pp_desk.proofs.Quiet.{Only, answers_alone, at_rest}
-use Rattle.pp_model.specs.declared.loaded.Loaded.{Loaded}
-use Rattle.pp_model.specs.Sizes.{IsCountable}
+use Rattle.pp_model.specs.Words.{Loaded, IsCountable}
 use Rattle.pp_merge.specs.Merge.{merged}
 use Rattle.pp_load.specs.declared.refusal.LoadRefusal.{LoadRefusal}
 use Rattle.pp_load.specs.Load.{load}

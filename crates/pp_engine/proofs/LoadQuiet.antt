@@ -1,9 +1,8 @@
 -- What loading does: it reads files and asks for patterns, and nothing else.
 use Rattle.std.proofs.Common.{◌≡◌, ℕ, Bool, true, List, [], ◌∷◌, length, refl}
-use Rattle.pp_desk.specs.Asking.{Asking}
-use Rattle.pp_desk.specs.Script.{Step, Ask, ReadFile, ◌>>=◌}
+use Rattle.pp_desk.specs.Words.{Asking, Step, Ask, ReadFile, ◌>>=◌}
 use Rattle.pp_desk.proofs.Quiet.{Only, only_then, reads_no_line}
-use Rattle.pp_model.specs.declared.profile.Profile.{Profile}
+use Rattle.pp_model.specs.Words.{Profile}
 use Rattle.pp_load.specs.declared.reading.Read.{Read}
 use Rattle.pp_load.specs.declared.refusal.LoadRefusal.{LoadRefusal}
 use Rattle.pp_load.specs.Load.{read_bytes, read_next, read_base, read_all, read_plan, load}

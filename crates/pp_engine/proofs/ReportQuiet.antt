@@ -1,26 +1,17 @@
 -- What a report does: it asks for patterns and reads files, and nothing else.
 use Rattle.std.proofs.Common.{◌≡◌, ℕ, Bool, true, false, List, [], ◌∷◌, ◌++◌, Option, Some, None, refl}
 use Rattle.std.specs.Prelude.{Result, Ok, Err, if◌then◌else◌}
-use Rattle.pp_desk.specs.Asking.{go_on}
-use Rattle.pp_desk.specs.Script.{Script, Give, Step, Ask, ReadFile, ◌>>=◌}
+use Rattle.pp_desk.specs.Words.{go_on, Script, Give, Step, Ask, ReadFile, ◌>>=◌}
 use Rattle.pp_desk.proofs.Quiet.{Only, only_then, reads_no_line}
-use Rattle.pp_model.specs.declared.config.Config.{Config}
-use Rattle.pp_model.specs.declared.loaded.Loaded.{Loaded}
-use Rattle.pp_model.specs.declared.profile.Profile.{Profile}
-use Rattle.pp_model.specs.declared.report.BaseKind.{BaseKind}
-use Rattle.pp_model.specs.declared.report.Report.{Report}
+use Rattle.pp_model.specs.Words.{Config, Loaded, Profile, BaseKind, Report, Environment, Finders, Written, own_pattern, is_counted}
 use Rattle.pp_model.specs.declared.report.Report.TheVariants as reports
-use Rattle.pp_model.specs.declared.environment.Environment.{Environment}
-use Rattle.pp_model.specs.Finders.{Finders}
-use Rattle.pp_units.specs.Head.{Facts}
+use Rattle.pp_units.specs.Words.{Facts}
 use Rattle.pp_count.specs.Counted.{has_own_match}
 use Rattle.pp_count.specs.Sums.{Seen}
-use Rattle.pp_model.specs.FrameTexts.{Written}
 use Rattle.pp_pattern.specs.Report.{judge, Finds}
 use Rattle.pp_report.specs.declared.refusal.ReportRefusal.{ReportRefusal}
 use Rattle.pp_report.specs.declared.refusal.ReportRefusal.TheVariants.{NoBase}
 use Rattle.pp_report.specs.Base.{lacks_base}
-use Rattle.pp_model.specs.ReportFacts.{own_pattern, is_counted}
 use Rattle.pp_report.specs.Patterns.{ask_patterns}
 use Rattle.pp_report.specs.Prepared.{Showing, prepare_counts, prepare_showing, showing_for, prepare_on, prepare}
 use Rattle.pp_report.specs.Reports.{list_text, text_by, finish_on, finish_made, finish}

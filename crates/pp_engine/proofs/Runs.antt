@@ -4,21 +4,10 @@ use Rattle.std.specs.Prelude.{Result, Ok, Err, IfOk, IfErr, IfSome, IfNone, IsNo
 use Rattle.std.proofs.lemmas.Bool.{false≢true}
 use Rattle.std.proofs.lemmas.List.{append-nil}
 use Rattle.std.proofs.lemmas.Option.{MatchOption-at_none}
-use Rattle.pp_base.specs.Fault.{Rose}
-use Rattle.pp_base.specs.FileMap.{FileMap}
-use Rattle.pp_base.specs.Front.{IsFront}
-use Rattle.pp_base.specs.Judges.{Answer}
-use Rattle.pp_base.specs.Told.{extended, extended-nil}
+use Rattle.pp_base.specs.Words.{Rose, FileMap, IsFront, Answer, extended, extended-nil}
 use Rattle.pp_desk.specs.declared.line_reader.TheConstants.{INPUT_LIMIT}
-use Rattle.pp_desk.specs.declared.stop.Stop.{Stop}
+use Rattle.pp_desk.specs.Words.{Stop, Closes, outside_of, given, ToErr, Outside, outside, Did, lines_of, IsLeftBehind, Went, parts, Ways, Goes, Halts, HasFailed, IsTakenOn, Told, Faults, Later, HasTaken, World}
 use Rattle.pp_desk.specs.declared.stop.Stop.TheVariants as stops
-use Rattle.pp_desk.specs.Closes.{Closes}
-use Rattle.pp_desk.specs.Course.{outside_of, given}
-use Rattle.pp_desk.specs.Effects.{ToErr, Outside, outside, Did}
-use Rattle.pp_desk.specs.Lines.{lines_of}
-use Rattle.pp_desk.specs.Reader.{IsLeftBehind}
-use Rattle.pp_desk.specs.Went.{Went, parts, Ways, Goes, Halts, HasFailed, IsTakenOn}
-use Rattle.pp_desk.specs.World.{Told, Faults, Later, HasTaken, World}
 use Rattle.pp_desk.proofs.Closing.{did_more, given_is}
 use Rattle.pp_desk.proofs.Coursing.{whole_course, front_course}
 use Rattle.pp_desk.proofs.Going.{later_same, taken_taken}

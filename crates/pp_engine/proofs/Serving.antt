@@ -1,15 +1,9 @@
 -- How reports go, from their patterns to what is told of them.
 use Rattle.std.proofs.Common.{◌≡◌, ℕ, List, refl, sym, subst}
 use Rattle.std.specs.Prelude.{Option, Result, Ok, Err}
-use Rattle.pp_desk.specs.declared.stop.Stop.{Stop}
-use Rattle.pp_desk.specs.Script.{Give}
-use Rattle.pp_desk.specs.Went.{Went}
-use Rattle.pp_desk.specs.World.{World}
+use Rattle.pp_desk.specs.Words.{Stop, Give, Went, World}
 use Rattle.pp_desk.proofs.Going.{goes_give, goes_second}
-use Rattle.pp_model.specs.declared.config.Config.{Config}
-use Rattle.pp_model.specs.declared.loaded.Loaded.{Loaded}
-use Rattle.pp_model.specs.declared.report.BaseKind.{BaseKind}
-use Rattle.pp_model.specs.declared.report.Report.{Report}
+use Rattle.pp_model.specs.Words.{Config, Loaded, BaseKind, Report}
 use Rattle.pp_pattern.specs.Report.{Finds}
 use Rattle.pp_report.specs.declared.refusal.ReportRefusal.{ReportRefusal}
 use Rattle.pp_report.specs.Prepared.{prepare}

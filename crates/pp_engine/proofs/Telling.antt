@@ -3,16 +3,9 @@ use Rattle.std.proofs.Common.{◌++◌, ℕ, List, length, drop, refl, sym, ap, 
 use Rattle.std.specs.Prelude.{Option, Result, Ok, Err}
 use Rattle.std.proofs.lemmas.List.{append-nil}
 use Rattle.std.proofs.lemmas.List.Concat.{flat_map-append}
-use Rattle.pp_base.specs.FileMap.{FileMap}
-use Rattle.pp_base.specs.Judges.{Answer}
-use Rattle.pp_desk.specs.declared.input_line.InputLine.{InputLine}
-use Rattle.pp_desk.specs.Course.{Course, course}
-use Rattle.pp_desk.specs.Effects.{read_of, reads_of}
-use Rattle.pp_desk.specs.Script.{Give, ◌>>=◌}
-use Rattle.pp_model.specs.declared.config.Config.{Config}
-use Rattle.pp_model.specs.declared.loaded.Loaded.{Loaded}
-use Rattle.pp_model.specs.declared.report.BaseKind.{BaseKind}
-use Rattle.pp_model.specs.declared.report.Report.{Report}
+use Rattle.pp_base.specs.Words.{FileMap, Answer}
+use Rattle.pp_desk.specs.Words.{InputLine, Course, course, read_of, reads_of, Give, ◌>>=◌}
+use Rattle.pp_model.specs.Words.{Config, Loaded, BaseKind, Report}
 use Rattle.pp_report.specs.declared.refusal.ReportRefusal.{ReportRefusal}
 use Rattle.pp_report.specs.Prepared.{Settled, prepare}
 use Rattle.pp_report.specs.Reports.{Reported, reported_with, finish, report_settled, report_script}

@@ -1,10 +1,7 @@
 -- Turns that follow one another until one of them ends all.
 use Rattle.std.proofs.Common.{◌≡◌, ◌-◌, ◌+◌, ◌<◌, ℕ, suc, ap, arith}
 use Rattle.std.specs.Prelude.{Ok, Err, Option, Some, None}
-use Rattle.pp_desk.specs.declared.stop.Stop.{Stop}
-use Rattle.pp_desk.specs.Script.{Script, ◌>>=◌}
-use Rattle.pp_desk.specs.Went.{Went, IsOnWay}
-use Rattle.pp_desk.specs.World.{World}
+use Rattle.pp_desk.specs.Words.{Stop, Script, ◌>>=◌, Went, IsOnWay, World}
 use Rattle.pp_desk.proofs.Going.{goes_second, stops_first, gives}
 use Rattle.pp_desk.proofs.Looping.{arrives, sets_out, moves_on}
 use Rattle.pp_engine.specs.Turns.{turns, given_or}

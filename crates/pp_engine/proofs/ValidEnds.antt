@@ -2,16 +2,10 @@
 use Rattle.std.proofs.Common.{◌≡◌, ℕ, true, not, List, Option, Some, None, refl, ap, ◌∙◌}
 use Rattle.std.specs.Prelude.{Result, Ok, Err, is_ok}
 use Rattle.std.proofs.lemmas.Bool.{false≢true}
-use Rattle.pp_base.specs.FileMap.{FileMap}
-use Rattle.pp_base.specs.Judges.{Answer}
-use Rattle.pp_desk.specs.declared.input_line.InputLine.{InputLine}
-use Rattle.pp_desk.specs.Course.{course}
-use Rattle.pp_desk.specs.Script.{◌>>=◌}
+use Rattle.pp_base.specs.Words.{FileMap, Answer}
+use Rattle.pp_desk.specs.Words.{InputLine, course, ◌>>=◌}
 use Rattle.pp_desk.proofs.Quiet.{Only, only_then}
-use Rattle.pp_model.specs.declared.config.Config.{Config}
-use Rattle.pp_model.specs.declared.loaded.Loaded.{Loaded}
-use Rattle.pp_model.specs.declared.report.BaseKind.{BaseKind}
-use Rattle.pp_model.specs.declared.report.Report.{Report}
+use Rattle.pp_model.specs.Words.{Config, Loaded, BaseKind, Report}
 use Rattle.pp_load.specs.declared.refusal.LoadRefusal.{LoadRefusal}
 use Rattle.pp_load.specs.Load.{load}
 use Rattle.pp_options.specs.declared.help.Topic.{Topic}

@@ -1,11 +1,9 @@
 -- What a run leaves of the profile that it loads, for a caller who goes on with it.
 use Rattle.std.specs.Prelude.{◌≡◌, ◌⊎◌, [], List, Bool, Option, Some, None, Result, IfOk, IfSome, IsTrue}
 use Rattle.std.specs.Result.{result_ok}
-use Rattle.pp_base.specs.Judges.{Answer}
-use Rattle.pp_desk.specs.Course.{told_course}
-use Rattle.pp_desk.specs.World.{Told}
-use Rattle.pp_model.specs.declared.loaded.Loaded.{Loaded}
-use Rattle.pp_model.specs.Sizes.{IsCountable}
+use Rattle.pp_base.specs.Words.{Answer}
+use Rattle.pp_desk.specs.Words.{told_course, Told}
+use Rattle.pp_model.specs.Words.{Loaded, IsCountable}
 use Rattle.pp_merge.specs.Merge.{merged}
 use Rattle.pp_load.specs.declared.refusal.LoadRefusal.{LoadRefusal}
 use Rattle.pp_load.specs.Load.{load}

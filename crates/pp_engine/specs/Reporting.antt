@@ -1,13 +1,8 @@
 -- A report: its notes, and then its text or why there is none.
 use Rattle.std.specs.Prelude.{◌≡◌, ℕ, List, [], Bool, true, false, Result, Ok, Err, Option, Some, None}
-use Rattle.pp_base.specs.FileMap.{FileMap}
-use Rattle.pp_desk.specs.Course.{Course}
-use Rattle.pp_desk.specs.Effects.{outs, errs, reads_of, files_after}
-use Rattle.pp_desk.specs.Script.{Script, Give, ◌>>=◌, write_out, write_err, write_file}
-use Rattle.pp_model.specs.declared.config.Config.{Config}
-use Rattle.pp_model.specs.declared.loaded.Loaded.{Loaded}
-use Rattle.pp_model.specs.declared.report.BaseKind.{BaseKind}
-use Rattle.pp_model.specs.declared.report.Report.{Report}
+use Rattle.pp_base.specs.Words.{FileMap}
+use Rattle.pp_desk.specs.Words.{Course, outs, errs, reads_of, files_after, Script, Give, ◌>>=◌, write_out, write_err, write_file}
+use Rattle.pp_model.specs.Words.{Config, Loaded, BaseKind, Report}
 use Rattle.pp_report.specs.declared.refusal.ReportRefusal.{ReportRefusal}
 use Rattle.pp_report.specs.Prepared.{Settled, prepare}
 use Rattle.pp_report.specs.Reports.{Reported, finish}

@@ -1,21 +1,11 @@
 -- What a run is: how its session went, how it ended, and what is told of a stop.
 use Rattle.std.specs.Prelude.{◌≡◌, ◌≤◌, ◌⊎◌, ℕ, true, false, List, Option, Result, IfErr, IfNone, IfSome, IsNone}
 use Rattle.std.specs.Prelude.{is_some, option_map, length}
-use Rattle.pp_base.specs.Fault.{Rose}
-use Rattle.pp_base.specs.Front.{IsFront}
-use Rattle.pp_base.specs.Judges.{Answer}
-use Rattle.pp_base.specs.Told.{extended, before}
+use Rattle.pp_base.specs.Words.{Rose, IsFront, Answer, extended, before}
 use Rattle.pp_desk.specs.declared.line_reader.TheConstants.{INPUT_LIMIT}
-use Rattle.pp_desk.specs.declared.stop.Stop.{Stop}
+use Rattle.pp_desk.specs.Words.{Stop, ToldCourse, Outside, outside, lines_of, IsLeftBehind, Script, Ways, HasFailed, Told, Faults, Later}
 use Rattle.pp_desk.specs.declared.stop.Stop.TheVariants as stops
-use Rattle.pp_desk.specs.Course.{ToldCourse}
-use Rattle.pp_desk.specs.Effects.{Outside, outside}
-use Rattle.pp_desk.specs.Lines.{lines_of}
-use Rattle.pp_desk.specs.Reader.{IsLeftBehind}
-use Rattle.pp_desk.specs.Script.{Script}
-use Rattle.pp_desk.specs.Went.{Ways, HasFailed}
-use Rattle.pp_desk.specs.World.{Told, Faults, Later}
-use Rattle.pp_model.specs.declared.loaded.Loaded.{Loaded}
+use Rattle.pp_model.specs.Words.{Loaded}
 use Rattle.pp_pattern.specs.Report.{Finds}
 use Rattle.pp_engine.specs.declared.ending.Cause.{Cause}
 use Rattle.pp_engine.specs.declared.ending.Cause.TheVariants as causes

@@ -1,16 +1,8 @@
 -- The session: from the words to all that is done for them, and how it ends.
 use Rattle.std.specs.Prelude.{◌≡◌, ◌++◌, [], ◌∷◌, List, ℕ, Option, Some, None, Result, Ok, Err, option_map}
-use Rattle.pp_base.specs.FileMap.{FileMap}
-use Rattle.pp_base.specs.Front.{IsFront}
-use Rattle.pp_base.specs.Judges.{Answer}
-use Rattle.pp_desk.specs.Course.{ToldCourse, told_course}
-use Rattle.pp_desk.specs.Effects.{Effect, ToErr, IsFrontOf, Outside, Did}
-use Rattle.pp_desk.specs.Lines.{lines_of}
-use Rattle.pp_desk.specs.Script.{Script, Give, ◌>>=◌, write_out}
-use Rattle.pp_model.specs.declared.config.Config.{Config}
-use Rattle.pp_model.specs.declared.loaded.Loaded.{Loaded}
-use Rattle.pp_model.specs.declared.report.BaseKind.{BaseKind}
-use Rattle.pp_model.specs.declared.report.Report.{Report}
+use Rattle.pp_base.specs.Words.{FileMap, IsFront, Answer}
+use Rattle.pp_desk.specs.Words.{ToldCourse, told_course, Effect, ToErr, IsFrontOf, Outside, Did, lines_of, Script, Give, ◌>>=◌, write_out}
+use Rattle.pp_model.specs.Words.{Config, Loaded, BaseKind, Report}
 use Rattle.pp_load.specs.declared.refusal.LoadRefusal.{LoadRefusal}
 use Rattle.pp_load.specs.Load.{load}
 use Rattle.pp_load.specs.Messages.{refusal_line}

@@ -1,11 +1,8 @@
 -- The shell: lines that are read one by one, each obeyed before the next is read.
 use Rattle.std.specs.Prelude.{ℕ, ◌==◌, List, [], ◌∷◌, Result, Ok, Err, Option, Some, None, codes, if◌then◌else◌}
-use Rattle.pp_desk.specs.Script.{Script, Give, ◌>>=◌, write_out, write_err, next_line}
-use Rattle.pp_desk.specs.declared.input_line.InputLine.{InputLine}
+use Rattle.pp_desk.specs.Words.{Script, Give, ◌>>=◌, write_out, write_err, next_line, InputLine}
 use Rattle.pp_desk.specs.declared.input_line.InputLine.TheVariants.{Line, TooLong, End, InputTooLong}
-use Rattle.pp_model.specs.declared.config.Config.{Config}
-use Rattle.pp_model.specs.declared.loaded.Loaded.{Loaded}
-use Rattle.pp_model.specs.declared.report.BaseKind.{BaseKind}
+use Rattle.pp_model.specs.Words.{Config, Loaded, BaseKind}
 use Rattle.pp_options.specs.declared.help.TheConstants.{SHELL_HELP}
 use Rattle.pp_options.specs.Listing.{options_text}
 use Rattle.pp_shell.specs.declared.command.Command.{Command}

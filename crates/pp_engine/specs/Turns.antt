@@ -1,6 +1,6 @@
 -- Turns that follow one another until one of them ends all.
 use Rattle.std.specs.Prelude.{ℕ, suc, zero, Option, Some, None}
-use Rattle.pp_desk.specs.Script.{Script, Give, ◌>>=◌}
+use Rattle.pp_desk.specs.Words.{Script, Give, ◌>>=◌}
 
 -- what is given, where something is, and else the other script
 abbrev pub given_or : {T : Type 0} → Script T → Option T → Script T

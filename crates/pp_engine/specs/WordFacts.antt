@@ -8,8 +8,7 @@ use Rattle.std.proofs.lemmas.Bool.{lt-ltb, ltb-true, leb-false, and_from, falseâ
 use Rattle.std.proofs.lemmas.List.{append-nil, length-append}
 use Rattle.std.proofs.lemmas.List.Folds.{list_all-append}
 use Rattle.std.proofs.lemmas.Option.{same_Some}
-use Rattle.pp_model.specs.declared.report.Report.{Report}
-use Rattle.pp_model.specs.declared.report.BaseKind.{BaseKind}
+use Rattle.pp_model.specs.Words.{Report, BaseKind}
 use Rattle.pp_options.specs.declared.format.Format.{Format as ReportFormat}
 use Rattle.pp_options.specs.declared.format.Format.TheVariants as formats
 use Rattle.pp_options.specs.declared.format.FlagFormat.{FlagFormat}

@@ -1,6 +1,6 @@
 -- What words ask for, before anything is done.
 use Rattle.std.specs.Prelude.{◌≡◌, List, ℕ, Bool, true, false, not, Option, Some, None, Result, Ok, Err, is_some, IsTrue, refl}
-use Rattle.pp_model.specs.declared.report.Report.{Report}
+use Rattle.pp_model.specs.Words.{Report}
 use Rattle.pp_options.specs.declared.help.Topic.{Topic}
 use Rattle.pp_options.specs.declared.plan.Plan.{Plan}
 use Rattle.pp_options.specs.declared.usage.UsageFault.{UsageFault}

@@ -1,8 +1,8 @@
 // The program but for its objects: from words that were read, or not, to an exit code.
 ghost use Rattle.std.specs.Prelude.{◌≡◌, IfErr, IfOk};
 ghost use Rattle.std.specs.Process.{exit_status};
-ghost use Rattle.pp_base.specs.Writes.{PutsFront};
-ghost use Rattle.pp_desk.specs.Effects.{outside};
+ghost use Rattle.pp_base.specs.Words.{PutsFront};
+ghost use Rattle.pp_desk.specs.Words.{outside};
 ghost use Rattle.pp_engine.specs.declared.ending.Cause.{Cause};
 ghost use Rattle.pp_engine.specs.Endings.{status_of, stop_line};
 ghost use Rattle.pp_engine.specs.Run.{RunsWords, TellsOfMemory, fault_counts, moment};

@@ -1,15 +1,8 @@
 // Reports: the notes, then the text or why there is none.
 ghost use Rattle.std.specs.Prelude.{◌≡◌, ℕ, List, Option, option_map};
-ghost use Rattle.pp_base.specs.FileMap.{FileMap};
-ghost use Rattle.pp_base.specs.Judges.{Answer};
-ghost use Rattle.pp_desk.specs.Course.{course};
-ghost use Rattle.pp_desk.specs.Went.{Went};
-ghost use Rattle.pp_desk.specs.declared.input_line.InputLine.{InputLine};
-ghost use Rattle.pp_model.specs.declared.config.Config.{Config};
-ghost use Rattle.pp_model.specs.declared.loaded.Loaded.{Loaded};
-ghost use Rattle.pp_model.specs.declared.report.BaseKind.{BaseKind};
-ghost use Rattle.pp_model.specs.declared.report.Report.{Report};
-ghost use Rattle.pp_model.specs.Sizes.{IsCountable};
+ghost use Rattle.pp_base.specs.Words.{FileMap, Answer};
+ghost use Rattle.pp_desk.specs.Words.{course, Went, InputLine};
+ghost use Rattle.pp_model.specs.Words.{Config, Loaded, BaseKind, Report, IsCountable};
 ghost use Rattle.pp_report.specs.Reports.{report_script};
 ghost use Rattle.pp_engine.specs.Reporting.{Tells, noted_report, end_report, end_with, hand_out_made, hand_out, save, tell_locked};
 ghost use Rattle.pp_pattern.specs.Report.{Finds};

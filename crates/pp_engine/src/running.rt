@@ -1,10 +1,7 @@
 // The top call: what a run does, from its words to its ending.
 ghost use Rattle.std.specs.Prelude.{◌≡◌, false, is_some};
-ghost use Rattle.pp_desk.specs.Closes.{Closes};
-ghost use Rattle.pp_desk.specs.Course.{outside_of};
-ghost use Rattle.pp_desk.specs.Effects.{outside};
+ghost use Rattle.pp_desk.specs.Words.{Closes, outside_of, outside, HasTaken};
 ghost use Rattle.pp_engine.specs.Endings.{fault_line, status_of, stop_line};
-ghost use Rattle.pp_desk.specs.World.{HasTaken};
 ghost use Rattle.pp_desk.specs.declared.line_reader.TheConstants.{INPUT_LIMIT};
 ghost use Rattle.pp_engine.specs.Leaves.{Leaves};
 ghost use Rattle.pp_engine.specs.Run.{Ran, RunsWords, TakesFront, fault_counts, moment, told_at};

@@ -1,6 +1,6 @@
 // The session: from the words to all that is done for them, and how it ends.
 ghost use Rattle.std.specs.Prelude.{◌≡◌, Some, is_err};
-ghost use Rattle.pp_desk.specs.Went.{Went};
+ghost use Rattle.pp_desk.specs.Words.{Went};
 ghost use Rattle.pp_load.specs.Messages.{refusal_line};
 ghost use Rattle.pp_engine.specs.Leaves.{Leaves};
 ghost use Rattle.pp_engine.specs.Messages.{usage_line};

@@ -1,11 +1,7 @@
 // The shell: lines that are read one by one, each obeyed before the next is read.
 ghost use Rattle.std.specs.Prelude.{◌≡◌, ◌+◌, Option, IfOk, OnOk, OnErr};
-ghost use Rattle.pp_desk.specs.Script.{write_out};
-ghost use Rattle.pp_desk.specs.Went.{Went, beside};
-ghost use Rattle.pp_model.specs.declared.config.Config.{Config};
-ghost use Rattle.pp_model.specs.declared.loaded.Loaded.{Loaded};
-ghost use Rattle.pp_model.specs.declared.report.BaseKind.{BaseKind};
-ghost use Rattle.pp_model.specs.Sizes.{IsCountable};
+ghost use Rattle.pp_desk.specs.Words.{write_out, Went, beside};
+ghost use Rattle.pp_model.specs.Words.{Config, Loaded, BaseKind, IsCountable};
 ghost use Rattle.pp_options.specs.Listing.{options_text};
 ghost use Rattle.pp_shell.specs.Lines.{line_command};
 ghost use Rattle.pp_engine.specs.declared.ending.Cause.{Cause};

@@ -2,10 +2,8 @@
 #![tactic(auto)]
 
 ghost use Rattle.std.specs.Prelude.{◌≡◌, ℕ, Option, IfOk};
-ghost use Rattle.pp_model.specs.declared.verdicts.Verdicts.{Verdicts};
+ghost use Rattle.pp_model.specs.Words.{Verdicts, defaults, HasAtMost, IsCountable};
 ghost use Rattle.pp_count.specs.Counted.{IsCountedOf};
-ghost use Rattle.pp_model.specs.Defaults.{defaults};
-ghost use Rattle.pp_model.specs.Sizes.{HasAtMost, IsCountable};
 ghost use Rattle.pp_build.specs.Adding.{no_entries};
 ghost use Rattle.pp_graph.specs.KeyRows.{CanShow};
 

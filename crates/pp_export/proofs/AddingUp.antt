@@ -6,11 +6,8 @@ use Rattle.std.proofs.lemmas.Bool.Decides.{Decides-int_eq}
 use Rattle.std.proofs.lemmas.Int.{ints}
 use Rattle.std.proofs.lemmas.List.{reverse-append}
 use Rattle.std.proofs.lemmas.List.Concat.{flat_map-cons}
-use Rattle.pp_model.specs.declared.config.Config.{Config}
-use Rattle.pp_model.specs.declared.profile.Profile.{Profile}
-use Rattle.pp_model.specs.Finders.{Finders}
-use Rattle.pp_model.specs.FrameTexts.{Written}
-use Rattle.pp_grain.specs.Keys.{key_cmp}
+use Rattle.pp_model.specs.Words.{Config, Profile, Finders, Written}
+use Rattle.pp_grain.specs.Words.{key_cmp}
 use Rattle.pp_calltree.specs.CallPaths.{CallPath, has_sum, path_by, paths_below, report_paths}
 use Rattle.pp_calltree.specs.CallTree.{TreeRow, all_lengths, any_row, path_flat, path_samples, tree_row, rows_below, siblings, under}
 use Rattle.pp_count.specs.Counted.{report_samples}

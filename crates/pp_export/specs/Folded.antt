@@ -2,11 +2,8 @@
 use Rattle.std.specs.Prelude.{ℕ, List, ◌++◌, map, codes, Option}
 use Rattle.std.specs.List.{filter, flat_map, join_with_byte}
 use Rattle.std.specs.Fmt.{signed_decimal}
-use Rattle.pp_model.specs.declared.config.Config.{Config}
-use Rattle.pp_model.specs.declared.profile.Profile.{Profile}
-use Rattle.pp_model.specs.Finders.{Finders}
-use Rattle.pp_model.specs.FrameTexts.{Written}
-use Rattle.pp_grain.specs.Naming.{name_text}
+use Rattle.pp_model.specs.Words.{Config, Profile, Finders, Written}
+use Rattle.pp_grain.specs.Words.{name_text}
 use Rattle.pp_calltree.specs.CallPaths.{CallPath, has_sum, report_paths}
 use Rattle.pp_export.specs.Escaped.{semicolon, escaped_name}
 

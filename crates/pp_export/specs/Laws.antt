@@ -1,11 +1,8 @@
 -- Laws of the reports for other programs: what their numbers add up to.
 use Rattle.std.specs.Prelude.{◌≡◌, ℕ, ◌<◌, ℤ, Bool, not, List, map, take, reverse, Option}
 use Rattle.std.specs.List.{filter}
-use Rattle.pp_model.specs.declared.config.Config.{Config}
-use Rattle.pp_model.specs.declared.profile.Profile.{Profile}
-use Rattle.pp_model.specs.Finders.{Finders}
-use Rattle.pp_model.specs.FrameTexts.{Written}
-use Rattle.pp_grain.specs.Keys.{key_cmp}
+use Rattle.pp_model.specs.Words.{Config, Profile, Finders, Written}
+use Rattle.pp_grain.specs.Words.{key_cmp}
 use Rattle.pp_calltree.specs.CallPaths.{CallPath, has_sum, report_paths}
 use Rattle.pp_calltree.specs.CallTree.{is_end}
 use Rattle.pp_count.specs.Counted.{report_samples}

@@ -1,9 +1,7 @@
 -- The names of keys as they stand in paths, all in one text, as the code holds them. No public clause cites it.
 use Rattle.std.specs.Prelude.{◌≡◌, ℕ, ◌+◌, ◌<◌, ◌≤◌, List, [], ◌∷◌, ◌++◌, length, take, drop, slice_index_or}
-use Rattle.pp_model.specs.declared.profile.Profile.{Profile}
-use Rattle.pp_model.specs.FrameTexts.{Written}
-use Rattle.pp_grain.specs.declared.key.Key.{Key}
-use Rattle.pp_grain.specs.Naming.{name_text}
+use Rattle.pp_model.specs.Words.{Profile, Written}
+use Rattle.pp_grain.specs.Words.{Key, name_text}
 use Rattle.pp_count.specs.Table.{written_key}
 use Rattle.pp_export.specs.declared.path_names.NamePlace.{NamePlace}
 use Rattle.pp_export.specs.declared.path_names.PathNames.{PathNames}

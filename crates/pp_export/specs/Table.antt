@@ -2,9 +2,7 @@
 use Rattle.std.specs.Prelude.{ℕ, List, ◌++◌, map, codes, Option}
 use Rattle.std.specs.List.{flat_map}
 use Rattle.std.specs.Fmt.{signed_decimal}
-use Rattle.pp_model.specs.declared.config.Config.{Config}
-use Rattle.pp_model.specs.declared.profile.Profile.{Profile}
-use Rattle.pp_model.specs.Finders.{Finders}
+use Rattle.pp_model.specs.Words.{Config, Profile, Finders}
 use Rattle.pp_count.specs.Counted.{report_samples}
 use Rattle.pp_graph.specs.KeyRows.{KeyRow, key_row}
 use Rattle.pp_graph.specs.Trim.{first_report_keys}

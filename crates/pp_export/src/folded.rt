@@ -1,10 +1,8 @@
 //! The folded report.
 ghost use Rattle.std.specs.Prelude.{◌≡◌, ◌++◌, ℕ, map, All, Option, IfOk, OnOk, OnErr};
 ghost use Rattle.std.specs.List.{flat_map};
-ghost use Rattle.pp_model.specs.declared.config.Config.{Config};
-ghost use Rattle.pp_model.specs.declared.verdicts.Verdicts.{Verdicts};
-ghost use Rattle.pp_model.specs.Finders.{Finders};
-ghost use Rattle.pp_grain.specs.Keys.{IsKeyOf};
+ghost use Rattle.pp_model.specs.Words.{Config, Verdicts, Finders};
+ghost use Rattle.pp_grain.specs.Words.{IsKeyOf};
 ghost use Rattle.pp_count.specs.Seeing.{HoldsFilters};
 ghost use Rattle.pp_count.specs.Table.{key_numbered, written_key};
 ghost use Rattle.pp_calltree.specs.CallPaths.{path_written, ArePathsOf, HasKeysOf};

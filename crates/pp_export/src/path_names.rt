@@ -1,6 +1,6 @@
 //! The names of keys as they stand in paths, by key number.
 ghost use Rattle.std.specs.Prelude.{◌≡◌, ◌≢◌, ◌++◌, ◌<◌, ℕ, List as Seq, length, slice_index_or, IfOk};
-ghost use Rattle.pp_grain.specs.Keys.{IsKeyOf};
+ghost use Rattle.pp_grain.specs.Words.{IsKeyOf};
 ghost use Rattle.pp_count.specs.Table.{key_numbered};
 ghost use Rattle.pp_export.specs.Escaped.{escaped_name};
 ghost use Rattle.pp_export.specs.PathNames.{no_name_place, at_place, name_place, name_and_separator, numbered_name, ArePathNames, GivesName};

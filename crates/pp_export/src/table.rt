@@ -1,9 +1,7 @@
 //! The table report.
 ghost use Rattle.std.specs.Prelude.{◌≡◌, ◌++◌, ◌<◌, ℕ, length, map, All, Option, IfOk, OnOk, OnErr};
-ghost use Rattle.pp_model.specs.declared.config.Config.{Config};
-ghost use Rattle.pp_model.specs.declared.verdicts.Verdicts.{Verdicts};
-ghost use Rattle.pp_model.specs.Finders.{Finders};
-ghost use Rattle.pp_grain.specs.Keys.{IsKeyOf};
+ghost use Rattle.pp_model.specs.Words.{Config, Verdicts, Finders};
+ghost use Rattle.pp_grain.specs.Words.{IsKeyOf};
 ghost use Rattle.pp_count.specs.Counted.{FitSums, IsCountedOf};
 ghost use Rattle.pp_count.specs.Seeing.{HoldsFilters};
 ghost use Rattle.pp_graph.specs.KeyRows.{row_at, CanShow};

@@ -1,13 +1,7 @@
 -- What is saved by verdicts is what is saved by what the patterns find.
 use Rattle.std.proofs.Common.{◌≡◌, sym, ap, ◌∙◌}
 use Rattle.std.specs.Prelude.{None, option_map}
-use Rattle.pp_model.specs.declared.config.Config.{Config}
-use Rattle.pp_model.specs.declared.loaded.Loaded.{Loaded}
-use Rattle.pp_model.specs.declared.profile.Profile.{Profile}
-use Rattle.pp_model.specs.declared.verdicts.Verdicts.{Verdicts}
-use Rattle.pp_model.specs.declared.filtering.Filtering.{Filtering}
-use Rattle.pp_model.specs.Rules.{IsCompact}
-use Rattle.pp_model.specs.Sizes.{IsCountable}
+use Rattle.pp_model.specs.Words.{Config, Loaded, Profile, Verdicts, Filtering, IsCompact, IsCountable}
 use Rattle.pp_model.proofs.LoadedLemmas.{same_loaded}
 use Rattle.pp_stack.specs.LoadFinders.{finder_by}
 use Rattle.pp_stack.proofs.LoadFinderLemmas.{same_judged}

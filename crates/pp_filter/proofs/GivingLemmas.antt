@@ -1,11 +1,7 @@
 -- What a script gives that may be refused.
 use Rattle.std.proofs.Common.{◌≡◌}
 use Rattle.std.specs.Prelude.{Result, Ok}
-use Rattle.pp_desk.specs.declared.halt.Halt.{Halt}
-use Rattle.pp_desk.specs.Asking.{settled}
-use Rattle.pp_desk.specs.Script.{Give}
-use Rattle.pp_desk.specs.World.{World}
-use Rattle.pp_desk.specs.Went.{Went}
+use Rattle.pp_desk.specs.Words.{Halt, settled, Give, World, Went}
 use Rattle.pp_desk.proofs.Going.{gives}
 
 -- A script gives what a function gave.

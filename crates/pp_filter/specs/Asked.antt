@@ -1,14 +1,9 @@
 -- The patterns that are asked of a matcher before a profile is filtered, and what comes of their answers.
 use Rattle.std.specs.Prelude.{Bool, List, Option, Some, None, option_map, Result, Ok, Err}
-use Rattle.pp_desk.specs.Asking.{Asking, ◌>>=◌}
+use Rattle.pp_desk.specs.Words.{Asking, Give}
+use Rattle.pp_desk.specs.Asking.{◌>>=◌}
 use Rattle.pp_desk.specs.Script as scripts
-use Rattle.pp_desk.specs.Script.{Give}
-use Rattle.pp_model.specs.declared.config.Config.{Config}
-use Rattle.pp_model.specs.declared.loaded.Loaded.{Loaded}
-use Rattle.pp_model.specs.declared.profile.Profile.{Profile}
-use Rattle.pp_model.specs.declared.verdicts.Verdicts.{Verdicts}
-use Rattle.pp_model.specs.declared.filtering.Filtering.{Filtering}
-use Rattle.pp_model.specs.Judged.{loaded_of}
+use Rattle.pp_model.specs.Words.{Config, Loaded, Profile, Verdicts, Filtering, loaded_of}
 use Rattle.pp_pattern.specs.declared.load.FramesRefused.{FramesRefused}
 use Rattle.pp_pattern.specs.declared.load.FramesRefused.TheVariants.{DropFrames, KeepFrames}
 use Rattle.pp_pattern.specs.declared.report.PatternRefused.{PatternRefused}

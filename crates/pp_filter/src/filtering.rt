@@ -1,12 +1,9 @@
 //! The whole call.
 ghost use Rattle.std.specs.Prelude.{◌≡◌, IfOk, None, Some};
-ghost use Rattle.pp_desk.specs.Asked.{Asked};
-ghost use Rattle.pp_desk.specs.Asking.{settled};
-ghost use Rattle.pp_desk.specs.Went.{Went};
+ghost use Rattle.pp_desk.specs.Words.{Asked, settled, Went};
 ghost use Rattle.pp_filter.specs.Asked.{filter, filter_loaded, filter_outcome, refused_by};
 ghost use Rattle.pp_filter.specs.Filtered.{saved_of, SavesFiltered};
-ghost use Rattle.pp_model.specs.Finders.{Finders};
-ghost use Rattle.pp_model.specs.Sizes.{IsCountable};
+ghost use Rattle.pp_model.specs.Words.{Finders, IsCountable};
 ghost use Rattle.pp_count.specs.Counted.{CanCount};
 ghost use Rattle.pp_count.specs.Seeing.{HoldsFilters};
 ghost use Rattle.pp_dump.specs.Saved.{saved};

@@ -1,7 +1,6 @@
 //! What the patterns find, of the profile and of the configuration.
 ghost use Rattle.std.specs.Prelude.{◌≡◌, IfOk, None, Ok};
-ghost use Rattle.pp_desk.specs.Asking.{settled};
-ghost use Rattle.pp_desk.specs.Went.{Went};
+ghost use Rattle.pp_desk.specs.Words.{settled, Went};
 ghost use Rattle.pp_filter.specs.Asked.{ask_profile_patterns, loaded_or_refused, ask_option_patterns, verdicts_or};
 ghost use Rattle.pp_pattern.specs.Load.{load_verdicts};
 ghost use Rattle.pp_pattern.specs.Report.{AreVerdictsOf};

@@ -2,14 +2,13 @@
 use Rattle.std.proofs.Common.{◌≡◌, ℕ, List, [], ◌∷◌, ◌++◌, length, take, drop, Bool, true, false, not, refl, sym, ap, ◌∙◌, append_assoc, codes}
 use Rattle.std.specs.Prelude.{◌&&◌, Result, Ok, Err, OnOk, OnErr, if◌then◌else◌, ℤ, pos, negsuc}
 use Rattle.std.specs.List.{join_with_byte}
-use Rattle.pp_base.specs.Paths.{last_name}
+use Rattle.pp_base.specs.Words.{last_name, is_empty_text}
 use Rattle.std.proofs.Math.Seq.{take-append_seam}
 use Rattle.std.proofs.lemmas.Bool.{ne_eqb}
 use Rattle.std.proofs.lemmas.List.{take-append-drop}
-use Rattle.pp_model.specs.FrameTexts.{Written}
+use Rattle.pp_model.specs.Words.{Written}
 use Rattle.pp_grain.specs.Keys.{is_zero}
 use Rattle.pp_grain.specs.Naming.{colon_number, hex16, word_if, place_text, object_text, code_words, name_text}
-use Rattle.pp_base.specs.Marks.{is_empty_text}
 
 -- three texts, one after the other
 pub joined :

@@ -1,11 +1,6 @@
 -- The profiles that the tests name the frames of. No public clause cites them.
 use Rattle.std.specs.Prelude.{ℕ, ℤ, pos, negsuc, false, List, [], ◌∷◌, codes}
-use Rattle.pp_model.specs.declared.profile.Function.{Function}
-use Rattle.pp_model.specs.declared.profile.Line.{Line}
-use Rattle.pp_model.specs.declared.profile.Location.{Location}
-use Rattle.pp_model.specs.declared.profile.Mapping.{Mapping}
-use Rattle.pp_model.specs.declared.profile.Profile.{Profile}
-use Rattle.pp_model.specs.declared.profile.Sample.{Sample}
+use Rattle.pp_model.specs.Words.{Function, Line, Location, Mapping, Profile, Sample}
 
 -- a profile of these tables, with one type that has no name, whose header says nothing
 abbrev pub plain_profile :

@@ -3,3 +3,4 @@ pub mod Keys
 pub mod Naming
 pub mod Sight
 pub mod Told
+pub mod Words

@@ -3,10 +3,9 @@ use Rattle.std.specs.Prelude.{ℕ, ◌-◌, ◌*◌, ◌/◌, ◌%◌, ◌^◌, 
 use Rattle.std.specs.Char.{digit_char}
 use Rattle.std.specs.Fmt.{signed_decimal}
 use Rattle.std.specs.List.{join_with_byte, range_with_len}
-use Rattle.pp_base.specs.Paths.{last_name}
-use Rattle.pp_model.specs.FrameTexts.{Written}
+use Rattle.pp_base.specs.Words.{last_name, is_empty_text}
+use Rattle.pp_model.specs.Words.{Written}
 use Rattle.pp_grain.specs.Keys.{is_zero, is_nameless}
-use Rattle.pp_base.specs.Marks.{is_empty_text}
 
 -- the k-th of sixteen hexadecimal digits, the highest first, in lower case
 abbrev pub digit_at : ℕ → ℕ → ℕ

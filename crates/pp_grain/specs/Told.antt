@@ -1,5 +1,5 @@
 -- A key with its texts, as the code holds it.
-use Rattle.pp_model.specs.FrameTexts.{Written}
+use Rattle.pp_model.specs.Words.{Written}
 use Rattle.pp_grain.specs.declared.texts.KeyTexts.{KeyTexts}
 
 -- what the key stands for

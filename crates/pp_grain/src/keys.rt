@@ -1,9 +1,7 @@
 //! Which frames count, and the key of a frame.
 ghost use Rattle.std.specs.Prelude.{◌≡◌, ◌<◌, [], length};
 ghost use Rattle.pp_model.specs.declared.grouping.Grain.TheVariants.{Lines};
-ghost use Rattle.pp_model.specs.Conditions.{IsFrameOf};
-ghost use Rattle.pp_model.specs.Lookup.{text_at};
-ghost use Rattle.pp_model.specs.FrameTexts.{written};
+ghost use Rattle.pp_model.specs.Words.{IsFrameOf, text_at, written};
 ghost use Rattle.pp_grain.specs.Keys.{frame_counts, kept_by, is_nameless, key_texts, key_written, IsKeyOf};
 
 use crate::key::Key;

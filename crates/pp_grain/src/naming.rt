@@ -3,7 +3,7 @@ ghost use Rattle.std.specs.Prelude.{◌≡◌, ◌++◌, ◌<◌, OnOk, OnErr};
 ghost use Rattle.std.specs.Char.{digit_char};
 ghost use Rattle.std.specs.List.{join_with_byte};
 ghost use Rattle.std.specs.Str.Parse.{digits_value};
-ghost use Rattle.pp_base.specs.Grew.{Grew};
+ghost use Rattle.pp_base.specs.Words.{Grew};
 ghost use Rattle.pp_grain.specs.Keys.{key_written, IsKeyOf};
 ghost use Rattle.pp_grain.specs.Told.{written_texts};
 ghost use Rattle.pp_grain.specs.Naming.{name_text, code_words, place_or_object, place_text, colon_number, object_text, hex16};

@@ -1,6 +1,6 @@
 //! The texts that a key's indices stand for.
 ghost use Rattle.std.specs.Prelude.{◌≡◌, ◌<◌, length};
-ghost use Rattle.pp_model.specs.Lookup.{text_at};
+ghost use Rattle.pp_model.specs.Words.{text_at};
 ghost use Rattle.pp_grain.specs.Told.{written_texts};
 ghost use Rattle.pp_grain.specs.Keys.{key_written, IsKeyOf};
 

@@ -11,10 +11,8 @@ use Rattle.std.proofs.Math.Bool.{and_comm}
 use Rattle.pp_base.proofs.Booleans.{either}
 use Rattle.pp_base.proofs.Sums.{same_sums, sum_of_two, sum_of_none}
 use Rattle.pp_base.proofs.Lists.{filter-both}
-use Rattle.pp_model.specs.declared.profile.Profile.{Profile}
-use Rattle.pp_model.specs.FrameTexts.{Written}
-use Rattle.pp_grain.specs.declared.key.Key.{Key}
-use Rattle.pp_grain.specs.Keys.{key_cmp, key_written}
+use Rattle.pp_model.specs.Words.{Profile, Written}
+use Rattle.pp_grain.specs.Words.{Key, key_cmp, key_written}
 use Rattle.pp_count.specs.declared.edge.Edge.{Edge}
 use Rattle.pp_count.specs.Sums.{Seen, has}
 use Rattle.pp_count.specs.EdgeSums.{stands_over, has_pair, has_edge, edge_occurs, edge_sum, kept_numbers, is_kept_name, edges_between, AreEdgesOf}

@@ -6,10 +6,8 @@ use Rattle.std.proofs.lemmas.List.Sums.{length-filter, count_by-le-length}
 use Rattle.std.proofs.lemmas.List.FromFn.{length-range_with_len}
 use Rattle.std.proofs.lemmas.List.{map-append, append-nil, length-append, length_push}
 use Rattle.std.proofs.lemmas.List.Elements.{filter-append, All-push}
-use Rattle.pp_model.specs.declared.presentation.Sort.{Sort}
-use Rattle.pp_model.specs.declared.profile.Profile.{Profile}
-use Rattle.pp_grain.specs.declared.key.Key.{Key}
-use Rattle.pp_grain.specs.Keys.{key_written}
+use Rattle.pp_model.specs.Words.{Sort, Profile}
+use Rattle.pp_grain.specs.Words.{Key, key_written}
 use Rattle.pp_count.specs.declared.sums.Sums.{Sums}
 use Rattle.pp_count.specs.Table.{no_key, written_key}
 use Rattle.pp_graph.specs.declared.heavy.RankedRow.{RankedRow}

@@ -1,8 +1,6 @@
 -- For the crates above: what the rows of a ranking's report ask for.
 use Rattle.std.proofs.Common.{ℕ, Option}
-use Rattle.pp_model.specs.declared.config.Config.{Config}
-use Rattle.pp_model.specs.declared.loaded.Loaded.{Loaded}
-use Rattle.pp_model.specs.declared.verdicts.Verdicts.{Verdicts}
+use Rattle.pp_model.specs.Words.{Config, Loaded, Verdicts}
 use Rattle.pp_count.specs.declared.counted.Counted.{Counted}
 use Rattle.pp_count.specs.Counted.{IsCountedOf}
 use Rattle.pp_graph.specs.declared.ranking.Ranked.{Ranked}

@@ -15,11 +15,9 @@ use Rattle.std.proofs.lemmas.Map.Keys.{IsDistinct-IsPermutation}
 use Rattle.std.proofs.lemmas.Map.Made.{IsDistinct-from_AllPairs, length-from_keys}
 use Rattle.std.proofs.lemmas.Map.Views.{any-filter_same}
 use Rattle.std.proofs.lemmas.Simd.{map-map}
-use Rattle.pp_model.specs.declared.presentation.Sort.{Sort}
+use Rattle.pp_model.specs.Words.{Sort, Profile, Written}
 use Rattle.pp_model.specs.declared.presentation.Sort.TheVariants as sorts
-use Rattle.pp_model.specs.declared.profile.Profile.{Profile}
-use Rattle.pp_model.specs.FrameTexts.{Written}
-use Rattle.pp_grain.specs.Keys.{key_cmp, key_written}
+use Rattle.pp_grain.specs.Words.{key_cmp, key_written}
 use Rattle.pp_grain.proofs.CallerLemmas.{key_cmp_total}
 use Rattle.pp_count.specs.declared.sums.Sums.{Sums}
 use Rattle.pp_count.specs.Sums.{Seen, all_keys, cum, flat}

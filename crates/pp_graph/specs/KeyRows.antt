@@ -1,10 +1,8 @@
 -- What the rows of several reports say of a key: its two sums and its name.
 use Rattle.std.specs.Prelude.{ℕ, ◌<◌, ◌^◌, ℤ, pos, nat_abs, ◌+ℤ◌, List, [], ◌∷◌, ◌++◌, length, map, slice_index_or, All}
 use Rattle.std.specs.List.{sum_by}
-use Rattle.pp_model.specs.declared.profile.Profile.{Profile}
-use Rattle.pp_model.specs.FrameTexts.{Written}
-use Rattle.pp_grain.specs.Keys.{key_cmp, IsKeyOf}
-use Rattle.pp_grain.specs.Naming.{name_text}
+use Rattle.pp_model.specs.Words.{Profile, Written}
+use Rattle.pp_grain.specs.Words.{key_cmp, IsKeyOf, name_text}
 use Rattle.pp_count.specs.declared.sums.Sums.{Sums}
 use Rattle.pp_count.specs.Counted.{FitSums}
 use Rattle.pp_count.specs.Sums.{Seen, flat, cum}

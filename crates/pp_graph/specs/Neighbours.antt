@@ -3,11 +3,8 @@ use Rattle.std.specs.Prelude.{ℕ, ℤ, Bool, true, List, map, Option}
 use Rattle.std.specs.List.{filter}
 use Rattle.std.specs.Ordering.{then_cmp}
 use Rattle.std.specs.declared.cmp.Ordering.{Ordering}
-use Rattle.pp_model.specs.declared.config.Config.{Config}
-use Rattle.pp_model.specs.declared.profile.Profile.{Profile}
-use Rattle.pp_model.specs.Finders.{Finders}
-use Rattle.pp_model.specs.FrameTexts.{Written}
-use Rattle.pp_grain.specs.Keys.{key_cmp}
+use Rattle.pp_model.specs.Words.{Config, Profile, Finders, Written}
+use Rattle.pp_grain.specs.Words.{key_cmp}
 use Rattle.pp_count.specs.Sums.{Seen, all_keys}
 use Rattle.pp_count.specs.EdgeSums.{edge_sum}
 use Rattle.pp_count.specs.Counts.{total_of}

@@ -4,13 +4,9 @@ use Rattle.std.specs.List.{filter, sum_by}
 use Rattle.std.specs.Ordering.{then_cmp, eq_by_cmp}
 use Rattle.std.specs.Set.{distinct_count}
 use Rattle.std.specs.declared.cmp.Ordering.{Ordering}
-use Rattle.pp_model.specs.declared.config.Config.{Config}
-use Rattle.pp_model.specs.declared.presentation.Sort.{Sort}
+use Rattle.pp_model.specs.Words.{Config, Sort, Profile, Finders, Written}
 use Rattle.pp_model.specs.declared.presentation.Sort.TheVariants as sorts
-use Rattle.pp_model.specs.declared.profile.Profile.{Profile}
-use Rattle.pp_model.specs.Finders.{Finders}
-use Rattle.pp_model.specs.FrameTexts.{Written}
-use Rattle.pp_grain.specs.Keys.{key_cmp}
+use Rattle.pp_grain.specs.Words.{key_cmp}
 use Rattle.pp_count.specs.Sums.{Seen, all_keys, has, cum, flat}
 use Rattle.pp_count.specs.EdgeSums.{edge_occurs, edge_sum}
 use Rattle.pp_count.specs.Counts.{total_of}

@@ -1,14 +1,8 @@
 -- What `rank` and `trim` give: the keys that a report shows, as numbers of names, and the graph of its edges.
 use Rattle.std.specs.Prelude.{◌≡◌, ℕ, ◌<◌, ◌^◌, nat_abs, ℤ, pos, ◌+ℤ◌, List, [], ◌∷◌, length, map, slice_get, slice_index_or, All, AllPairs, ◌≢◌, Option, Some, if◌then◌else◌}
 use Rattle.std.specs.List.{sum_by}
-use Rattle.pp_model.specs.declared.config.Config.{Config}
-use Rattle.pp_model.specs.declared.loaded.Loaded.{Loaded}
-use Rattle.pp_model.specs.declared.verdicts.Verdicts.{Verdicts}
-use Rattle.pp_model.specs.declared.profile.Profile.{Profile}
-use Rattle.pp_model.specs.Finders.{Finders}
-use Rattle.pp_model.specs.FrameTexts.{Written}
-use Rattle.pp_grain.specs.declared.key.Key.{Key}
-use Rattle.pp_grain.specs.Keys.{key_cmp}
+use Rattle.pp_model.specs.Words.{Config, Loaded, Verdicts, Profile, Finders, Written}
+use Rattle.pp_grain.specs.Words.{Key, key_cmp}
 use Rattle.pp_count.specs.declared.counted.Counted.{Counted}
 use Rattle.pp_count.specs.declared.edge.Edge.{Edge}
 use Rattle.pp_count.specs.declared.sums.Sums.{Sums}

@@ -1,6 +1,6 @@
 //! The keys that are heavy enough for a report, in report order.
 ghost use Rattle.std.specs.Prelude.{◌≡◌, ◌<◌, ◌^◌, length, nat_abs, All, IfOk};
-ghost use Rattle.pp_grain.specs.Keys.{IsKeyOf};
+ghost use Rattle.pp_grain.specs.Words.{IsKeyOf};
 ghost use Rattle.pp_graph.specs.Ranks.{row_cmp, sum_of_name, is_heavy_number, IsRankedRow, Collected, AreRanked};
 
 use pp_base::{Fraction, List, Memory};

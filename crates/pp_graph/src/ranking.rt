@@ -1,9 +1,8 @@
 //! The keys that a report shows, in report order.
 ghost use Rattle.std.specs.Prelude.{◌≡◌, ℕ, ◌<◌, ◌^◌, nat_abs, length, map, All, Option, IfOk};
 ghost use Rattle.std.specs.List.{sum_by};
-ghost use Rattle.pp_model.specs.declared.config.Config.{Config};
-ghost use Rattle.pp_model.specs.declared.verdicts.Verdicts.{Verdicts};
-ghost use Rattle.pp_grain.specs.Keys.{IsKeyOf};
+ghost use Rattle.pp_model.specs.Words.{Config, Verdicts};
+ghost use Rattle.pp_grain.specs.Words.{IsKeyOf};
 ghost use Rattle.pp_count.specs.Counted.{IsCountedOf, FitSums};
 ghost use Rattle.pp_graph.specs.Ranks.{sum_of_name};
 ghost use Rattle.pp_graph.specs.Trim.{shown_keys};

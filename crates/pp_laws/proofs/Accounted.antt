@@ -8,20 +8,11 @@ use Rattle.std.proofs.lemmas.Bool.{false≢true}
 use Rattle.std.proofs.lemmas.Bool.Decides.{Decides-int_eq}
 use Rattle.std.proofs.lemmas.Int.{ints}
 use Rattle.std.proofs.lemmas.List.{take-append-drop}
-use Rattle.pp_model.specs.declared.config.Config.{Config}
-use Rattle.pp_model.specs.declared.frame.Frame.{Frame}
-use Rattle.pp_model.specs.declared.profile.Sample.{Sample}
-use Rattle.pp_model.specs.declared.profile.Profile.{Profile}
-use Rattle.pp_model.specs.declared.verdicts.Slot.{Slot}
+use Rattle.pp_model.specs.Words.{Config, Frame, Sample, Profile, Slot, Filtering, Presentation, Finder, Finders, stack_of, Written, written}
 use Rattle.pp_model.specs.declared.verdicts.Slot.TheVariants as slots
-use Rattle.pp_model.specs.declared.filtering.Filtering.{Filtering}
-use Rattle.pp_model.specs.declared.presentation.Presentation.{Presentation}
-use Rattle.pp_model.specs.Finders.{Finder, Finders}
-use Rattle.pp_model.specs.Frames.{stack_of}
-use Rattle.pp_model.specs.FrameTexts.{Written, written}
 use Rattle.pp_stack.specs.Filters.{load_pruned, not_hidden, frames_shown, shown_from, is_emptied, has_no_items}
 use Rattle.pp_tags.specs.TagFilters.{filter_in_force, selects_or}
-use Rattle.pp_grain.specs.Keys.{key_cmp}
+use Rattle.pp_grain.specs.Words.{key_cmp}
 use Rattle.pp_count.specs.Base.{selected_all}
 use Rattle.pp_count.specs.Column.{selected}
 use Rattle.pp_count.specs.Counts.{filtered_samples, total_of}

@@ -5,11 +5,7 @@ use Rattle.std.specs.List.{AllByRecursion}
 use Rattle.std.proofs.Math.IntN.{+ℤ_idl}
 use Rattle.std.proofs.lemmas.Bool.{not-false}
 use Rattle.pp_base.proofs.Lists.{all_by}
-use Rattle.pp_model.specs.declared.profile.Profile.{Profile}
-use Rattle.pp_model.specs.declared.profile.Sample.{Sample}
-use Rattle.pp_model.specs.Lookup.{text_of}
-use Rattle.pp_model.specs.Sizes.{value_in}
-use Rattle.pp_model.specs.FirstSight.{distinct}
+use Rattle.pp_model.specs.Words.{Profile, Sample, text_of, value_in, distinct}
 use Rattle.pp_share.specs.Described.{SampleText, location_found, sample_text, samples_found}
 use Rattle.pp_share.specs.Alike.{same_sample, first_alike}
 use Rattle.pp_merge.specs.Merge.{all_mappings, all_samples, contents}

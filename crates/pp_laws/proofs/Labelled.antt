@@ -5,23 +5,13 @@ use Rattle.std.proofs.Math.ListN.{get_or-append}
 use Rattle.std.proofs.lemmas.Bool.{and_parts}
 use Rattle.std.proofs.lemmas.List.{length-map}
 use Rattle.std.proofs.lemmas.List.Elements.{recursion_from_All}
-use Rattle.pp_model.specs.declared.config.Config.{Config}
-use Rattle.pp_model.specs.declared.grouping.Grain.{Grain}
-use Rattle.pp_model.specs.declared.profile.Function.{Function}
-use Rattle.pp_model.specs.declared.profile.Mapping.{Mapping}
-use Rattle.pp_model.specs.declared.profile.Profile.{Profile}
-use Rattle.pp_model.specs.declared.profile.Sample.{Sample}
+use Rattle.pp_model.specs.Words.{Config, Grain, Function, Mapping, Profile, Sample, Finders, text_of, text_number, mapping_with, function_with, location_with, Written, NoRuleFails, is_text, mapping_has_texts, function_has_texts, value_in}
 use Rattle.pp_model.specs.declared.report.BaseKind.TheVariants.{DiffBase}
-use Rattle.pp_model.specs.Finders.{Finders}
-use Rattle.pp_model.specs.Lookup.{text_of, text_number, mapping_with, function_with, location_with}
-use Rattle.pp_model.specs.FrameTexts.{Written}
-use Rattle.pp_model.specs.Rules.{NoRuleFails, is_text, mapping_has_texts, function_has_texts}
-use Rattle.pp_model.specs.Sizes.{value_in}
 use Rattle.pp_model.proofs.RuleLemmas.{passes as rule_passes, text_below}
 use Rattle.std.specs.Option.{option_map_or}
 use Rattle.pp_base.proofs.Lists.{all_by}
 use Rattle.pp_tags.specs.TagFilters.{filter_in_force}
-use Rattle.pp_grain.specs.Keys.{key_cmp}
+use Rattle.pp_grain.specs.Words.{key_cmp}
 use Rattle.pp_share.specs.Described.{LabelText, MappingText, SampleText, mapping_text, function_text, mapping_found, function_found, location_text, location_found, nowhere}
 use Rattle.pp_share.specs.Alike.{first_alike}
 use Rattle.pp_merge.specs.Merge.{all_mappings, merged}

@@ -3,15 +3,9 @@ use Rattle.std.proofs.Common.{◌≡◌, ℕ, Bool, true, false, cond, not, ◌&
 use Rattle.std.specs.List.{cons_option, list_any}
 use Rattle.std.specs.List.Sorted.{IsPermutation}
 use Rattle.std.proofs.lemmas.List.Sorted.{IsPermutation-refl, IsPermutation-cons, IsPermutation-middle, IsPermutation-sym, IsPermutation-trans}
-use Rattle.pp_model.specs.declared.config.Config.{Config}
-use Rattle.pp_model.specs.declared.frame.Frame.{Frame}
-use Rattle.pp_model.specs.declared.profile.Profile.{Profile}
-use Rattle.pp_model.specs.declared.profile.Sample.{Sample}
-use Rattle.pp_model.specs.Finders.{Finder, Finders}
-use Rattle.pp_model.specs.Frames.{stack_of}
-use Rattle.pp_model.specs.FrameTexts.{Written, written}
+use Rattle.pp_model.specs.Words.{Config, Frame, Profile, Sample, Finder, Finders, stack_of, Written, written}
 use Rattle.pp_stack.specs.Filters.{finds_frame, load_pruned, left_of_cut}
-use Rattle.pp_grain.specs.Keys.{key_cmp}
+use Rattle.pp_grain.specs.Words.{key_cmp}
 use Rattle.pp_count.specs.Sums.{Seen, weighed, sum_where, has, leads}
 use Rattle.pp_count.specs.EdgeSums.{has_edge}
 use Rattle.pp_count.specs.Seeing.{passes_tags, seen_with, seen, seen_samples}

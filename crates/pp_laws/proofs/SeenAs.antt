@@ -6,21 +6,11 @@ use Rattle.std.specs.Option.{option_map_or}
 use Rattle.std.specs.Str.{bytes_eq}
 use Rattle.std.proofs.lemmas.List.Elements.{recursion_from_All}
 use Rattle.pp_base.proofs.Lists.{all_by}
-use Rattle.pp_model.specs.declared.config.Config.{Config}
-use Rattle.pp_model.specs.declared.grouping.Grain.{Grain}
+use Rattle.pp_model.specs.Words.{Config, Grain, Frame, Profile, Sample, RefersTo, Finders, stack_of, Written, written, text_at, text_of, label_has_texts, NoRuleFails, IsCompact}
 use Rattle.pp_model.specs.declared.grouping.Grain.TheVariants.{Functions, FileFunctions, Files, Lines, Addresses}
-use Rattle.pp_model.specs.declared.frame.Frame.{Frame}
-use Rattle.pp_model.specs.declared.profile.Profile.{Profile}
-use Rattle.pp_model.specs.declared.profile.Sample.{Sample}
-use Rattle.pp_model.specs.Conditions.{RefersTo}
-use Rattle.pp_model.specs.Finders.{Finders}
-use Rattle.pp_model.specs.Frames.{stack_of}
-use Rattle.pp_model.specs.FrameTexts.{Written, written}
-use Rattle.pp_model.specs.Lookup.{text_at, text_of}
-use Rattle.pp_model.specs.Rules.{label_has_texts, NoRuleFails, IsCompact}
 use Rattle.pp_model.proofs.RuleLemmas.{passes as rule_passes}
 use Rattle.pp_stack.specs.Filters.{filtered, frames_of_sample}
-use Rattle.pp_grain.specs.Keys.{key_texts}
+use Rattle.pp_grain.specs.Words.{key_texts}
 use Rattle.pp_share.specs.Described.{MappingText, SampleText, location_found, sample_text}
 use Rattle.pp_share.specs.Alike.{first_alike}
 use Rattle.pp_share.specs.Written.{Contents}

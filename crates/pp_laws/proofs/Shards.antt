@@ -6,16 +6,9 @@ use Rattle.std.specs.Option.{option_map_or}
 use Rattle.std.proofs.Math.IntN.{+ℤ_idr}
 use Rattle.std.proofs.lemmas.List.{length-map}
 use Rattle.pp_base.proofs.Lists.{all_by}
-use Rattle.pp_model.specs.declared.config.Config.{Config}
+use Rattle.pp_model.specs.Words.{Config, Mapping, Profile, Sample, Finders, text_of, mapping_with, Written, value_in}
 use Rattle.pp_model.specs.declared.grouping.Grain.TheVariants.{Addresses}
-use Rattle.pp_model.specs.declared.profile.Mapping.{Mapping}
-use Rattle.pp_model.specs.declared.profile.Profile.{Profile}
-use Rattle.pp_model.specs.declared.profile.Sample.{Sample}
-use Rattle.pp_model.specs.Finders.{Finders}
-use Rattle.pp_model.specs.Lookup.{text_of, mapping_with}
-use Rattle.pp_model.specs.FrameTexts.{Written}
-use Rattle.pp_model.specs.Sizes.{value_in}
-use Rattle.pp_grain.specs.Keys.{key_cmp}
+use Rattle.pp_grain.specs.Words.{key_cmp}
 use Rattle.pp_share.specs.Described.{LabelText, MappingText, SampleText, label_text, mapping_text, mapping_found, start_of}
 use Rattle.pp_share.specs.Alike.{first_alike}
 use Rattle.pp_merge.specs.Merge.{all_mappings, contents, merged}

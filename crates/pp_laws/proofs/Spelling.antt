@@ -9,14 +9,9 @@ use Rattle.std.proofs.lemmas.Bool.{leb-true}
 use Rattle.std.proofs.lemmas.Fmt.{decimal_is_IsNumeral_wide}
 use Rattle.std.proofs.lemmas.Int.{ints}
 use Rattle.std.proofs.lemmas.Nat.{mul-le}
-use Rattle.pp_units.specs.declared.family.Family.{Family}
+use Rattle.pp_units.specs.Words.{Family, Scale, number_text, value_text, signed_text, shortened, IsNearest, nearest, rounded, factor, suffix_of_scale, falling, family_of_scale, scale_of, Shown, smallest, largest_within, picked, picked_by, forced, picked_for_each, factor_of, suffix_of, is_same_kind, to_at}
 use Rattle.pp_units.specs.declared.family.Family.TheVariants.{Time, Bytes, Plain, Other}
-use Rattle.pp_units.specs.declared.scale.Scale.{Scale}
 use Rattle.pp_units.specs.declared.scale.Scale.TheVariants.{Nanoseconds, Microseconds, Milliseconds, Seconds, Hours, SingleBytes, Kilobytes, Megabytes, Gigabytes, Terabytes, Petabytes, Counts}
-use Rattle.pp_units.specs.Numbers.{number_text, value_text, signed_text, shortened}
-use Rattle.pp_units.specs.Rounded.{IsNearest, nearest, rounded}
-use Rattle.pp_units.specs.Scales.{factor, suffix_of_scale, falling, family_of_scale, scale_of}
-use Rattle.pp_units.specs.Shown.{Shown, smallest, largest_within, picked, picked_by, forced, picked_for_each, factor_of, suffix_of, is_same_kind, to_at}
 use Rattle.pp_units.proofs.ZeroText.{number_text-zero}
 use Rattle.pp_laws.specs.Units.{RowsStay, UnitsSpell, PickedUnitsSpell, ForcedUnitsSpell, EachUnitsSpell, EachIsPicked, EachTellsZero}
 

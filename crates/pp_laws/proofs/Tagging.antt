@@ -6,17 +6,10 @@ use Rattle.std.specs.Option.{option_map_or}
 use Rattle.std.specs.Ordering.{int_eq}
 use Rattle.std.proofs.lemmas.Bool.{and_parts, ltb-true, false≢true}
 use Rattle.std.proofs.lemmas.Bool.Decides.{Decides-int_eq}
-use Rattle.pp_model.specs.declared.config.Config.{Config}
-use Rattle.pp_model.specs.declared.profile.Label.{Label}
-use Rattle.pp_model.specs.declared.profile.Profile.{Profile}
-use Rattle.pp_model.specs.declared.profile.Sample.{Sample}
-use Rattle.pp_model.specs.Finders.{Finder, Finders, TagFinder, TagFinders}
-use Rattle.pp_model.specs.Lookup.{text_of, text_at}
-use Rattle.pp_model.specs.Rules.{NoRuleFails, IsCompact, label_has_texts, is_text}
+use Rattle.pp_model.specs.Words.{Config, Label, Profile, Sample, Finder, Finders, TagFinder, TagFinders, text_of, text_at, NoRuleFails, IsCompact, label_has_texts, is_text}
 use Rattle.pp_stack.specs.Filters.{has_no_items}
 use Rattle.pp_stack.proofs.ToldLemmas.{list_any-map}
-use Rattle.pp_units.specs.declared.range.Range.{Range}
-use Rattle.pp_units.specs.Ranges.{in_range}
+use Rattle.pp_units.specs.Words.{Range, in_range}
 use Rattle.pp_tags.specs.declared.tag_filter.TagFilter.{TagFilter}
 use Rattle.pp_tags.specs.Labels.{has_text, unit_or, number_unit}
 use Rattle.pp_tags.specs.TagFilters.{has_name, selects_range, selects_some, selects_parts, selects_or, filter_in_force}

@@ -5,19 +5,8 @@ use Rattle.std.specs.List.{AllByRecursion, range_with_len}
 use Rattle.std.specs.Option.{option_map_or}
 use Rattle.std.proofs.lemmas.List.{map-append}
 use Rattle.std.proofs.lemmas.List.Elements.{All-head, All-tail}
-use Rattle.pp_model.specs.declared.grouping.Grain.{Grain}
+use Rattle.pp_model.specs.Words.{Grain, Frame, Line, Location, Mapping, Function, Profile, no_location, location_at, text_at, text_number, function_with, mapping_with, location_with, rows, row_frame, frames_from, Written, written, name_number, file_number, object_number, written_line, written_lines, written_at, AreNumbered, location_ids}
 use Rattle.pp_model.specs.declared.grouping.Grain.TheVariants.{Functions, FileFunctions, Files, Lines, Addresses}
-use Rattle.pp_model.specs.declared.frame.Frame.{Frame}
-use Rattle.pp_model.specs.declared.profile.Line.{Line}
-use Rattle.pp_model.specs.declared.profile.Location.{Location}
-use Rattle.pp_model.specs.declared.profile.Mapping.{Mapping}
-use Rattle.pp_model.specs.declared.profile.Function.{Function}
-use Rattle.pp_model.specs.declared.profile.Profile.{Profile}
-use Rattle.pp_model.specs.Conditions.{no_location, location_at}
-use Rattle.pp_model.specs.Lookup.{text_at, text_number, function_with, mapping_with, location_with}
-use Rattle.pp_model.specs.Frames.{rows, row_frame, frames_from}
-use Rattle.pp_model.specs.FrameTexts.{Written, written, name_number, file_number, object_number, written_line, written_lines, written_at}
-use Rattle.pp_model.specs.Rules.{AreNumbered, location_ids}
 use Rattle.pp_model.proofs.CompactLemmas.{find_numbered, place_within, one_le_id}
 use Rattle.pp_model.proofs.FrameLemmas.{written_found}
 use Rattle.pp_share.specs.Described.{FunctionText, MappingText, LineText, LocationText, function_text, mapping_text, line_text, function_found, mapping_found, location_text, location_found, nowhere, less, plus, start_of}

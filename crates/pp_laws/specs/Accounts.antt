@@ -1,10 +1,6 @@
 -- The rows of an account add up.
 use Rattle.std.specs.Prelude.{◌≡◌, ℕ, ◌+◌, pos, ◌+ℤ◌, false, List, [], ◌∷◌, ◌++◌, map, Option}
-use Rattle.pp_model.specs.declared.config.Config.{Config}
-use Rattle.pp_model.specs.declared.profile.Profile.{Profile}
-use Rattle.pp_model.specs.declared.verdicts.Slot.{Slot}
-use Rattle.pp_model.specs.declared.filtering.Filtering.{Filtering}
-use Rattle.pp_model.specs.Finders.{Finders}
+use Rattle.pp_model.specs.Words.{Config, Profile, Slot, Filtering, Finders}
 use Rattle.pp_count.specs.Counts.{filtered_samples}
 use Rattle.pp_graph.specs.Trim.{all_report_keys, report_keys}
 use Rattle.pp_account.specs.declared.portion.Portion.{Portion}

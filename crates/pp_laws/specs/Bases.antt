@@ -1,15 +1,10 @@
 -- A difference is a difference: a profile less a base, and less itself.
 use Rattle.std.specs.Prelude.{◌≡◌, ℕ, ◌-ℤ◌, Bool, [], ◌∷◌, length, Option, Some}
-use Rattle.pp_model.specs.declared.config.Config.{Config}
-use Rattle.pp_model.specs.declared.profile.Profile.{Profile}
-use Rattle.pp_model.specs.declared.report.BaseKind.{BaseKind}
+use Rattle.pp_model.specs.Words.{Config, Profile, BaseKind, NoRuleFails, Finders, Written}
 use Rattle.pp_model.specs.declared.report.BaseKind.TheVariants.{Base, DiffBase}
-use Rattle.pp_model.specs.Rules.{NoRuleFails}
-use Rattle.pp_model.specs.Finders.{Finders}
 use Rattle.pp_merge.specs.Merge.{merged}
 use Rattle.pp_merge.specs.Scale.{negated}
-use Rattle.pp_grain.specs.Keys.{key_cmp}
-use Rattle.pp_model.specs.FrameTexts.{Written}
+use Rattle.pp_grain.specs.Words.{key_cmp}
 use Rattle.pp_count.specs.Sums.{flat, cum}
 use Rattle.pp_count.specs.EdgeSums.{edge_sum}
 use Rattle.pp_count.specs.Counted.{report_samples}

@@ -1,12 +1,8 @@
 -- How large the figures of a report can be.
 use Rattle.std.specs.Prelude.{◌≡◌, ℕ, ◌≤◌, pos, ◌≤ℤ◌, nat_abs, Bool, true, false, List, Option, Some}
 use Rattle.std.specs.List.{AllByRecursion, list_any}
-use Rattle.pp_model.specs.declared.config.Config.{Config}
-use Rattle.pp_model.specs.declared.profile.Profile.{Profile}
-use Rattle.pp_model.specs.Finders.{Finders}
-use Rattle.pp_model.specs.FrameTexts.{Written}
-use Rattle.pp_model.specs.Sizes.{value_in}
-use Rattle.pp_grain.specs.Keys.{key_cmp}
+use Rattle.pp_model.specs.Words.{Config, Profile, Finders, Written, value_in}
+use Rattle.pp_grain.specs.Words.{key_cmp}
 use Rattle.pp_count.specs.Sums.{Seen, has, flat, cum}
 use Rattle.pp_count.specs.EdgeSums.{edge_sum}
 use Rattle.pp_count.specs.Seeing.{seen_samples}

@@ -1,14 +1,9 @@
 -- A comparison shows both sides: what a profile that has a base says of the base, and of the source.
 use Rattle.std.specs.Prelude.{◌≡◌, ℕ, ℤ, neg_ℤ, ◌+ℤ◌, false, not, List, [], ◌∷◌, Option, Some}
 use Rattle.std.specs.List.{filter}
-use Rattle.pp_model.specs.declared.config.Config.{Config}
-use Rattle.pp_model.specs.declared.profile.Profile.{Profile}
-use Rattle.pp_model.specs.declared.profile.Sample.{Sample}
+use Rattle.pp_model.specs.Words.{Config, Profile, Sample, NoRuleFails, Finders, Written}
 use Rattle.pp_model.specs.declared.report.BaseKind.TheVariants.{DiffBase}
-use Rattle.pp_model.specs.Rules.{NoRuleFails}
-use Rattle.pp_model.specs.Finders.{Finders}
-use Rattle.pp_model.specs.FrameTexts.{Written}
-use Rattle.pp_grain.specs.Keys.{key_cmp}
+use Rattle.pp_grain.specs.Words.{key_cmp}
 use Rattle.pp_merge.specs.Merge.{merged}
 use Rattle.pp_count.specs.Base.{has_base, base_report_samples}
 use Rattle.pp_count.specs.Sums.{Seen, flat, cum, weighed}

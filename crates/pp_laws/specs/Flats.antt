@@ -1,11 +1,7 @@
 -- Nothing is lost and nothing made up: what the flats of a report add up to.
 use Rattle.std.specs.Prelude.{◌≡◌, ℕ, map, Option}
-use Rattle.pp_model.specs.declared.config.Config.{Config}
-use Rattle.pp_model.specs.declared.loaded.Loaded.{Loaded}
-use Rattle.pp_model.specs.declared.profile.Profile.{Profile}
-use Rattle.pp_model.specs.declared.verdicts.Verdicts.{Verdicts}
-use Rattle.pp_model.specs.Finders.{Finders}
-use Rattle.pp_grain.specs.Keys.{key_cmp}
+use Rattle.pp_model.specs.Words.{Config, Loaded, Profile, Verdicts, Finders}
+use Rattle.pp_grain.specs.Words.{key_cmp}
 use Rattle.pp_count.specs.declared.counted.Counted.{Counted}
 use Rattle.pp_count.specs.Sums.{flat, sum_where}
 use Rattle.pp_count.specs.Seeing.{HoldsFilters, seen_samples}

@@ -1,11 +1,8 @@
 -- Focus and ignore of one pattern part the whole.
 use Rattle.std.specs.Prelude.{◌≡◌, ℕ, ◌+ℤ◌, Bool, ◌++◌, Option, Some, None}
 use Rattle.std.specs.List.Sorted.{IsPermutation}
-use Rattle.pp_model.specs.declared.config.Config.{Config}
-use Rattle.pp_model.specs.declared.profile.Profile.{Profile}
-use Rattle.pp_model.specs.Finders.{Finder, Finders}
-use Rattle.pp_model.specs.FrameTexts.{Written}
-use Rattle.pp_grain.specs.Keys.{key_cmp}
+use Rattle.pp_model.specs.Words.{Config, Profile, Finder, Finders, Written}
+use Rattle.pp_grain.specs.Words.{key_cmp}
 use Rattle.pp_count.specs.Sums.{flat, cum}
 use Rattle.pp_count.specs.EdgeSums.{edge_sum}
 use Rattle.pp_count.specs.Seeing.{seen_samples}

@@ -1,11 +1,9 @@
 -- Trimming only hides.
 use Rattle.std.specs.Prelude.{◌≡◌, ℕ, Option}
 use Rattle.std.specs.List.{filter}
-use Rattle.pp_base.specs.declared.fraction.Fraction.{Fraction}
-use Rattle.pp_model.specs.declared.config.Config.{Config}
-use Rattle.pp_model.specs.declared.profile.Profile.{Profile}
-use Rattle.pp_model.specs.Finders.{Finders}
-use Rattle.pp_grain.specs.Keys.{key_cmp}
+use Rattle.pp_base.specs.Words.{Fraction}
+use Rattle.pp_model.specs.Words.{Config, Profile, Finders}
+use Rattle.pp_grain.specs.Words.{key_cmp}
 use Rattle.pp_count.specs.Counts.{total_of}
 use Rattle.pp_count.specs.Counted.{report_samples}
 use Rattle.pp_graph.specs.Trim.{report_keys, shown_keys, is_heavy_key}

@@ -1,14 +1,9 @@
 -- Scaling scales, and a base counts against its source.
 use Rattle.std.specs.Prelude.{◌≡◌, ℕ, ◌<◌, pos, neg_ℤ, ◌*ℤ◌, int_rem, Bool, List, length, Option, Some}
 use Rattle.std.specs.List.{AllByRecursion}
-use Rattle.pp_model.specs.declared.config.Config.{Config}
-use Rattle.pp_model.specs.declared.profile.Profile.{Profile}
-use Rattle.pp_model.specs.declared.profile.Sample.{Sample}
+use Rattle.pp_model.specs.Words.{Config, Profile, Sample, Finders, Written, value_in}
 use Rattle.pp_model.specs.declared.report.BaseKind.TheVariants.{Base}
-use Rattle.pp_model.specs.Finders.{Finders}
-use Rattle.pp_model.specs.FrameTexts.{Written}
-use Rattle.pp_model.specs.Sizes.{value_in}
-use Rattle.pp_grain.specs.Keys.{key_cmp}
+use Rattle.pp_grain.specs.Words.{key_cmp}
 use Rattle.pp_merge.specs.Scale.{scaled, scaled_sample, negated}
 use Rattle.pp_count.specs.Column.{selected}
 use Rattle.pp_count.specs.Sums.{Seen, flat, cum}

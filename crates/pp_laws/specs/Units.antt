@@ -1,11 +1,7 @@
 -- The unit only spells.
 use Rattle.std.specs.Prelude.{◌≡◌, ℕ, ◌<◌, ◌≤◌, ◌*◌, ◌^◌, ℤ, pos, ◌≤ℤ◌, ◌<ℤ◌, nat_abs, List, Option, IfSome, codes}
-use Rattle.pp_units.specs.Numbers.{number_text, value_text, signed_text, shortened}
-use Rattle.pp_units.specs.Rounded.{IsNearest}
-use Rattle.pp_units.specs.Shown.{Shown, picked, forced, picked_for_each, to_at}
-use Rattle.pp_model.specs.declared.config.Config.{Config}
-use Rattle.pp_model.specs.declared.profile.Profile.{Profile}
-use Rattle.pp_model.specs.Finders.{Finders}
+use Rattle.pp_units.specs.Words.{number_text, value_text, signed_text, shortened, IsNearest, Shown, picked, forced, picked_for_each, to_at}
+use Rattle.pp_model.specs.Words.{Config, Profile, Finders}
 use Rattle.pp_count.specs.Counts.{total_of}
 use Rattle.pp_count.specs.Counted.{report_samples}
 use Rattle.pp_graph.specs.Trim.{report_keys}

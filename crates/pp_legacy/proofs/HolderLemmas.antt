@@ -14,7 +14,7 @@ use Rattle.std.proofs.lemmas.List.Folds.{list_any-append}
 use Rattle.std.proofs.lemmas.Grind.{same_number_lists}
 use Rattle.std.proofs.lemmas.Option.{none-some, same_Some}
 use Rattle.std.proofs.Math.Bool.{or-false}
-use Rattle.pp_model.specs.declared.profile.Mapping.{Mapping}
+use Rattle.pp_model.specs.Words.{Mapping}
 use Rattle.pp_legacy.specs.Tables.{holds_address, holder_of}
 use Rattle.pp_legacy.specs.Free.{Places, place_in, HasPlaces, TakesAddress}
 

@@ -17,8 +17,8 @@ use Rattle.pp_legacy.specs.Tables.{addresses_of, entry_sample, mapping_of, numbe
 use Rattle.pp_legacy.specs.Sizes.{HasFew}
 use Rattle.pp_legacy.specs.Legacy.{legacy}
 use Rattle.pp_model.proofs.FirstSightLemmas.{length-distinct}
-use Rattle.pp_base.specs.Marks.{is_line_end}
-use Rattle.pp_model.specs.Sizes.{HasAtMost}
+use Rattle.pp_base.specs.Words.{is_line_end}
+use Rattle.pp_model.specs.Words.{HasAtMost}
 
 module _ (bytes : List ℕ) where
   -- a fault of the header

@@ -10,7 +10,7 @@ use Rattle.pp_legacy.specs.declared.records.Record.{Record}
 use Rattle.pp_legacy.specs.Steps.{Reading}
 use Rattle.pp_legacy.specs.Sizes.{HasFew}
 use Rattle.pp_legacy.specs.Records.{StackRecord, Entries, in_front, record_at, entries_in, entries_from}
-use Rattle.pp_base.specs.Results.{◌>>=◌}
+use Rattle.pp_base.specs.Words.{◌>>=◌}
 
 -- these entries in front of those that are read
 abbrev pub behind : List StackRecord → Reading Entries → Reading Entries

@@ -7,8 +7,7 @@ use Rattle.std.proofs.lemmas.Grind.{flat_map-append}
 use Rattle.std.proofs.lemmas.List.{map-append, map_push, append-nil, take_more}
 use Rattle.std.proofs.lemmas.List.Sums.{fold-append}
 use Rattle.pp_base.proofs.Lists.{all_by, map_agree}
-use Rattle.pp_model.specs.declared.profile.Sample.{Sample}
-use Rattle.pp_model.specs.FirstSight.{seen_with, seen_after, distinct, place_of}
+use Rattle.pp_model.specs.Words.{Sample, seen_with, seen_after, distinct, place_of}
 use Rattle.pp_legacy.specs.Records.{StackRecord}
 use Rattle.pp_legacy.specs.Tables.{addresses_of, location_id, entry_sample}
 use Rattle.pp_model.proofs.FirstSightLemmas.{IsSeen, all_seen, place-seen_with, place-seen_after, place_when_seen}

@@ -9,13 +9,7 @@ use Rattle.std.proofs.lemmas.List.{length-append, length-map, length-take}
 use Rattle.std.proofs.lemmas.List.FromFn.{length-range_with_len, get_or-range_with_len, length-enumerate_from}
 use Rattle.std.proofs.Math.Bool.{or-false}
 use Rattle.pp_base.proofs.Lists.{all_by}
-use Rattle.pp_model.specs.declared.profile.ValueType.{ValueType}
-use Rattle.pp_model.specs.declared.profile.Sample.{Sample}
-use Rattle.pp_model.specs.declared.profile.Mapping.{Mapping}
-use Rattle.pp_model.specs.declared.profile.Location.{Location}
-use Rattle.pp_model.specs.declared.profile.Profile.{Profile}
-use Rattle.pp_model.specs.Rules.{NoRuleFails, first_failing, first_repeated, stands_in, is_zero_or_in, is_text_of, mapping_ids, location_ids}
-use Rattle.pp_model.specs.FirstSight.{place_of}
+use Rattle.pp_model.specs.Words.{ValueType, Sample, Mapping, Location, Profile, NoRuleFails, first_failing, first_repeated, stands_in, is_zero_or_in, is_text_of, mapping_ids, location_ids, place_of}
 use Rattle.pp_legacy.specs.Records.{StackRecord}
 use Rattle.pp_legacy.specs.Regions.{Region}
 use Rattle.pp_legacy.specs.Tables.{addresses_of, location_id, entry_sample, mapping_of, numbered_mappings, holds_address, holder_of, location_of, numbered_locations, fixed_texts, texts_of, samples_type, cpu_type, legacy_profile}

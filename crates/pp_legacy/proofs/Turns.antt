@@ -10,7 +10,7 @@ use Rattle.pp_legacy.specs.declared.records.Cursor.{Cursor}
 use Rattle.pp_legacy.specs.Steps.{Reading, fault_unless}
 use Rattle.pp_legacy.specs.Words.{word_at, behind_words, truncated}
 use Rattle.pp_legacy.specs.Records.{StackRecord, Entries, Found, in_front, trailer_at, entry_at, nanos_with, record_at, entries_in, entries_from}
-use Rattle.pp_base.specs.Results.{◌>>=◌}
+use Rattle.pp_base.specs.Words.{◌>>=◌}
 
 -- what was read comes from what was read first
 first_read : {A B : Type 0} (r : Reading A) (f : A → Reading B) (y : B) → (r >>= f) ≡ Ok y → (x : A) × (r ≡ Ok x) × (f x ≡ Ok y)

@@ -2,7 +2,7 @@
 use Rattle.std.specs.Prelude.{◌≡◌, ℕ, ◌<◌, ◌≤◌, true, List, slice_index, Option, Some, None, nat_eq, if◌then◌else◌}
 use Rattle.std.specs.Ordering.{nat_cmp}
 use Rattle.std.specs.BTreeMap.{BTreeMap, get}
-use Rattle.pp_model.specs.declared.profile.Mapping.{Mapping}
+use Rattle.pp_model.specs.Words.{Mapping}
 use Rattle.pp_legacy.specs.Tables.{holds_address}
 
 -- a table of places by addresses

@@ -6,7 +6,7 @@ use Rattle.pp_legacy.specs.declared.fault.LegacyKind.TheVariants.{BadHeader}
 use Rattle.pp_legacy.specs.declared.header.Header.{Header}
 use Rattle.pp_legacy.specs.Steps.{Reading, fault_unless}
 use Rattle.pp_legacy.specs.Words.{word_at, behind_words}
-use Rattle.pp_base.specs.Results.{◌>>=◌}
+use Rattle.pp_base.specs.Words.{◌>>=◌}
 
 -- the most microseconds whose nanoseconds are a number of 63 bits
 abbrev pub most_period : ℕ

@@ -2,14 +2,14 @@
 -- records, a trailer, and the text of the process's mapped regions.
 use Rattle.std.specs.Prelude.{ℕ, ◌*◌, ◌==◌, Bool, ◌&&◌, List, length, take, drop, nat_le, Ok}
 use Rattle.std.specs.List.{list_all}
-use Rattle.pp_model.specs.declared.profile.Profile.{Profile}
+use Rattle.pp_model.specs.Words.{Profile}
 use Rattle.pp_legacy.specs.Steps.{Reading}
 use Rattle.pp_legacy.specs.Words.{whole_words}
 use Rattle.pp_legacy.specs.Header.{header}
 use Rattle.pp_legacy.specs.Records.{entries_from}
 use Rattle.pp_legacy.specs.Regions.{regions}
 use Rattle.pp_legacy.specs.Tables.{legacy_profile}
-use Rattle.pp_base.specs.Results.{◌>>=◌}
+use Rattle.pp_base.specs.Words.{◌>>=◌}
 
 -- the file is a CPU profile of gperftools: it has two words, and the first is 0
 abbrev pub is_legacy : List ℕ → Bool

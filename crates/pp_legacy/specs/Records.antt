@@ -6,7 +6,7 @@ use Rattle.pp_legacy.specs.declared.fault.LegacyKind.TheVariants.{BadRecord, Too
 use Rattle.pp_legacy.specs.declared.records.Cursor.{Cursor}
 use Rattle.pp_legacy.specs.Steps.{Reading, fault_unless, fault_at}
 use Rattle.pp_legacy.specs.Words.{word_at, behind_words, truncated}
-use Rattle.pp_base.specs.Results.{◌>>=◌}
+use Rattle.pp_base.specs.Words.{◌>>=◌}
 
 -- a stack: how often it was seen, that number times the period in nanoseconds, and its addresses, leaf first
 pub record StackRecord : Type 0 where

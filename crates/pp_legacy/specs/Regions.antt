@@ -6,7 +6,7 @@ use Rattle.std.specs.List.{prefix_len, slice_split, filter_map}
 use Rattle.std.specs.Char.{is_ascii_hexdigit}
 use Rattle.std.specs.Str.Parse.{digits_value}
 use Rattle.std.specs.Option.{option_and_then}
-use Rattle.pp_base.specs.Marks.{is_line_end}
+use Rattle.pp_base.specs.Words.{is_line_end}
 
 -- a part of a line, and what stands behind it
 abbrev pub Part : Type 0 → Type 0

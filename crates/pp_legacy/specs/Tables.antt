@@ -2,14 +2,9 @@
 use Rattle.std.specs.Prelude.{ℕ, ◌+◌, ◌==◌, Bool, false, ◌&&◌, pos, List, [], ◌∷◌, ◌++◌, map, find, codes, nat_lt, nat_le, nat_eq}
 use Rattle.std.specs.List.{flat_map, enumerate_from}
 use Rattle.std.specs.Option.{option_map_or}
-use Rattle.pp_model.specs.declared.profile.ValueType.{ValueType}
-use Rattle.pp_model.specs.declared.profile.Sample.{Sample}
-use Rattle.pp_model.specs.declared.profile.Mapping.{Mapping}
-use Rattle.pp_model.specs.declared.profile.Location.{Location}
-use Rattle.pp_model.specs.declared.profile.Profile.{Profile}
+use Rattle.pp_model.specs.Words.{ValueType, Sample, Mapping, Location, Profile, distinct, place_of}
 use Rattle.pp_legacy.specs.Records.{StackRecord}
 use Rattle.pp_legacy.specs.Regions.{Region}
-use Rattle.pp_model.specs.FirstSight.{distinct, place_of}
 
 -- the addresses of all stacks, each once, in the order of first sight
 abbrev pub addresses_of : List StackRecord → List ℕ

@@ -2,7 +2,7 @@
 ghost use Rattle.std.specs.Prelude.{◌≡◌, ◌<◌, ◌^◌, length, map, IsTrue, IfOk};
 ghost use Rattle.pp_legacy.specs.Steps.{GivesOrMemory};
 ghost use Rattle.pp_legacy.specs.Legacy.{is_legacy, legacy};
-ghost use Rattle.pp_model.specs.Sizes.{HasAtMost};
+ghost use Rattle.pp_model.specs.Words.{HasAtMost};
 ghost use Rattle.pp_legacy.specs.Tables.{legacy_profile};
 ghost use Rattle.pp_legacy.specs.Seen.{entry_of, regions_of};
 

@@ -5,7 +5,7 @@ ghost use Rattle.pp_legacy.specs.Words.{whole_words};
 ghost use Rattle.pp_legacy.specs.Records.{trailer_at, entry_at, record_at, entries_from};
 ghost use Rattle.pp_legacy.specs.Seen.{entry_of, step_of, entries_of};
 ghost use Rattle.pp_legacy.specs.Sizes.{HasFew};
-ghost use Rattle.pp_base.specs.Results.{Gives};
+ghost use Rattle.pp_base.specs.Words.{Gives};
 
 use crate::words::{behind_words, fault_unless, word_at, words_between};
 use crate::{LegacyFault, LegacyKind, LegacyRefusal};

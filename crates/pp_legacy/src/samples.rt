@@ -2,7 +2,7 @@
 ghost use Rattle.std.specs.Prelude.{◌≡◌, ◌+◌, [], map, nat_eq, IfOk, OnOk};
 ghost use Rattle.std.specs.List.{flat_map};
 ghost use Rattle.pp_legacy.specs.Words.{whole_words};
-ghost use Rattle.pp_model.specs.FirstSight.{seen_with, seen_after, place_of};
+ghost use Rattle.pp_model.specs.Words.{seen_with, seen_after, place_of};
 ghost use Rattle.pp_legacy.specs.Tables.{addresses_of, location_id, entry_sample};
 ghost use Rattle.pp_legacy.specs.Seen.{entry_of};
 

@@ -2,14 +2,9 @@
 use Rattle.std.proofs.Common.{◌≡◌, ℕ, List, [], Option, Some, sym, subst}
 use Rattle.std.specs.Prelude.{Result, Err}
 use Rattle.std.specs.Borrow.{GName}
-use Rattle.pp_base.specs.Judges.{Answer}
-use Rattle.pp_desk.specs.declared.stop.Stop.{Stop}
-use Rattle.pp_desk.specs.Went.{Went}
-use Rattle.pp_desk.specs.World.{World}
-use Rattle.pp_model.specs.declared.config.Config.{Config}
-use Rattle.pp_model.specs.declared.loaded.Loaded.{Loaded}
-use Rattle.pp_model.specs.declared.report.BaseKind.{BaseKind}
-use Rattle.pp_model.specs.declared.report.Report.{Report}
+use Rattle.pp_base.specs.Words.{Answer}
+use Rattle.pp_desk.specs.Words.{Stop, Went, World, Asked, told_by, value_of, world_by}
+use Rattle.pp_model.specs.Words.{Config, Loaded, BaseKind, Report}
 use Rattle.pp_options.specs.declared.plan.Plan.{Plan}
 use Rattle.pp_pattern.specs.Report.{Finds}
 use Rattle.pp_load.specs.Alone.{HasOneFile}
@@ -21,7 +16,6 @@ use Rattle.pp_library.specs.declared.countable.Countable.{Countable}
 use Rattle.pp_library.specs.declared.load_error.LoadError.{LoadError}
 use Rattle.pp_library.specs.declared.load_error.LoadError.TheVariants as errors
 use Rattle.pp_library.specs.declared.report_error.ReportError.{ReportError}
-use Rattle.pp_desk.specs.Asked.{Asked, told_by, value_of, world_by}
 use Rattle.pp_library.specs.Loads.{load_bytes, outcome_of, held_files}
 use Rattle.pp_library.specs.Reports.{report_text, report_outcome}
 use Rattle.pp_desk.proofs.AskedLemmas.{halts_now}

@@ -2,20 +2,12 @@
 use Rattle.std.proofs.Common.{◌≡◌, ℕ, List, [], ◌∷◌, ◌++◌, map, Option, None, option_map, inl, inr, refl, sym, ap, ◌∙◌, subst, ◌⊎◌}
 use Rattle.std.specs.Prelude.{Result, Ok, Err, IfOk}
 use Rattle.std.specs.Borrow.{GName}
-use Rattle.pp_base.specs.Judges.{Answer}
+use Rattle.pp_base.specs.Words.{Answer}
 use Rattle.std.specs.List.{flat_map}
-use Rattle.pp_desk.specs.declared.stop.Stop.{Stop}
+use Rattle.pp_desk.specs.Words.{Stop, Script, Give, Make, Went, Asked, value_of, world_by}
 use Rattle.pp_desk.specs.Script as scripts
-use Rattle.pp_desk.specs.Script.{Script, Give, Make}
-use Rattle.pp_desk.specs.Went.{Went}
-use Rattle.pp_model.specs.declared.config.Config.{Config}
-use Rattle.pp_model.specs.declared.loaded.Loaded.{Loaded}
-use Rattle.pp_model.specs.declared.profile.Profile.{Profile}
-use Rattle.pp_model.specs.declared.report.BaseKind.{BaseKind}
+use Rattle.pp_model.specs.Words.{Config, Loaded, Profile, BaseKind, Verdicts, Finders, Written}
 use Rattle.pp_model.specs.declared.report.Report.TheVariants.{Table}
-use Rattle.pp_model.specs.declared.verdicts.Verdicts.{Verdicts}
-use Rattle.pp_model.specs.Finders.{Finders}
-use Rattle.pp_model.specs.FrameTexts.{Written}
 use Rattle.pp_count.specs.declared.counted.Counted.{Counted}
 use Rattle.pp_count.specs.Counted.{IsCountedOf, report_samples}
 use Rattle.pp_count.specs.Seeing.{HoldsFilters}
@@ -37,7 +29,6 @@ use Rattle.pp_library.specs.declared.edging.FigureEdge.{FigureEdge}
 use Rattle.pp_library.specs.declared.tabling.Figure.{Figure}
 use Rattle.pp_library.specs.declared.tabling.FigureTable.{FigureTable}
 use Rattle.pp_library.specs.declared.report_error.ReportError.{ReportError}
-use Rattle.pp_desk.specs.Asked.{Asked, value_of, world_by}
 use Rattle.pp_library.specs.Figures.{TablesPrintFigures, figure_of, figure_line, figures_by, figures_outcome, figures_settled, printed_figures, table_with, table_figures, figures_text, without_edges, HasEdgesOn, HasEdges}
 use Rattle.pp_library.specs.Reports.{report_text}
 use Rattle.pp_desk.proofs.AskedLemmas.{asked_by, asked_map, asked_ends}

@@ -4,17 +4,12 @@ use Rattle.std.specs.Prelude.{Result, Ok, Err, IfOk, nat_lt}
 use Rattle.std.specs.Borrow.{GName}
 use Rattle.std.specs.List.{AllByRecursion, list_all, sum_by}
 use Rattle.std.proofs.lemmas.Bool.{ltb-true, ltb-false, false≢true}
-use Rattle.pp_base.specs.Judges.{Answer}
+use Rattle.pp_base.specs.Words.{Answer}
 use Rattle.std.proofs.lemmas.List.{take_more}
 use Rattle.std.proofs.lemmas.List.Sums.{sum_by-append}
 use Rattle.pp_base.proofs.Lists.{all_append, all_by}
-use Rattle.pp_desk.specs.declared.stop.Stop.{Stop}
-use Rattle.pp_desk.specs.Asking.{go_on}
-use Rattle.pp_desk.specs.Went.{Went, Goes}
-use Rattle.pp_model.specs.declared.loaded.Loaded.{Loaded}
-use Rattle.pp_model.specs.declared.profile.Profile.{Profile}
-use Rattle.pp_model.specs.Rules.{NoRuleFails}
-use Rattle.pp_model.specs.Sizes.{IsCountable, absolute_sum}
+use Rattle.pp_desk.specs.Words.{Stop, go_on, Went, Goes, Asked, told_by, value_of, world_by}
+use Rattle.pp_model.specs.Words.{Loaded, Profile, NoRuleFails, IsCountable, absolute_sum}
 use Rattle.pp_merge.specs.declared.refusal.MergeRefusal.{MergeRefusal}
 use Rattle.pp_merge.specs.declared.refusal.MergeRefusal.TheVariants as merging_refusals
 use Rattle.pp_merge.specs.declared.refusal.What.{What}
@@ -38,7 +33,6 @@ use Rattle.pp_pattern.specs.Report.{Finds}
 use Rattle.pp_library.specs.declared.countable.Countable.{Countable}
 use Rattle.pp_library.specs.declared.merge_error.MergeError.{MergeError}
 use Rattle.pp_library.specs.declared.merge_error.MergeError.TheVariants as errors
-use Rattle.pp_desk.specs.Asked.{Asked, told_by, value_of, world_by}
 use Rattle.pp_library.specs.Merged.{has_few_columns, are_few, merge_all, merge_error, merge_outcome}
 use Rattle.pp_desk.proofs.AskedLemmas.{asked_by, asked_map, halts_now}
 

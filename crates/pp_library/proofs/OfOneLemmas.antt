@@ -1,13 +1,10 @@
 -- Which refusals come of the bytes of one file.
 use Rattle.std.proofs.Common.{◌≡◌, ℕ, Bool, true, false, List, [], ◌∷◌, length, refl, sym, subst, if◌then◌else◌}
 use Rattle.std.specs.Prelude.{Option, Some, None, nat_lt, Result, Ok, Err, IfErr, IfOk}
-use Rattle.pp_base.specs.Judges.{Answer}
-use Rattle.pp_desk.specs.declared.stop.Stop.{Stop}
+use Rattle.pp_base.specs.Words.{Answer}
+use Rattle.pp_desk.specs.Words.{Stop, Goes, Told, Asked, value_of}
 use Rattle.pp_desk.specs.Asking as asking
-use Rattle.pp_desk.specs.Went.{Goes}
-use Rattle.pp_desk.specs.World.{Told}
-use Rattle.pp_model.specs.declared.loaded.Loaded.{Loaded}
-use Rattle.pp_model.specs.declared.profile.Profile.{Profile}
+use Rattle.pp_model.specs.Words.{Loaded, Profile}
 use Rattle.pp_legacy.specs.Legacy.{is_legacy, legacy}
 use Rattle.pp_legacy.specs.Steps.{Reading}
 use Rattle.pp_tables.specs.declared.refusal.ReadRefusal.{ReadRefusal}
@@ -28,7 +25,6 @@ use Rattle.pp_load.specs.Steps.{Loading, ◌>>=◌, unless}
 use Rattle.pp_library.specs.declared.countable.Countable.{Countable}
 use Rattle.pp_library.specs.declared.load_error.LoadError.{LoadError}
 use Rattle.pp_library.specs.declared.load_error.LoadError.TheVariants as errors
-use Rattle.pp_desk.specs.Asked.{Asked, value_of}
 use Rattle.pp_library.specs.Loads.{IsOfOne, profile_of_file, load_bytes, outcome_of}
 use Rattle.pp_desk.proofs.AskedLemmas.{goes_then}
 

@@ -3,24 +3,15 @@ use Rattle.std.proofs.Common.{◌≡◌, ℕ, Bool, true, false, List, [], ◌�
 use Rattle.std.specs.Prelude.{Option, Some, None, IfSome, nat_lt, Result, Ok, Err}
 use Rattle.std.specs.FinMap.{get-from_entries}
 use Rattle.std.proofs.lemmas.Cmp.{nat_list_cmp_total}
-use Rattle.pp_base.specs.FileMap.{FileMap, content_at}
-use Rattle.pp_desk.specs.declared.file_content.FileContent.{FileContent}
+use Rattle.pp_base.specs.Words.{FileMap, content_at}
+use Rattle.pp_desk.specs.Words.{FileContent, Stop, Asked, told_by, value_of, course, does, FromFile, Script, Give, Make, ReadFile, Went, Ways, Goes, Halts, InPart, IsReply, after, content_within, parts, Told, World}
 use Rattle.pp_desk.specs.declared.file_content.FileContent.TheVariants as contents
-use Rattle.pp_desk.specs.declared.stop.Stop.{Stop}
 use Rattle.pp_desk.specs.declared.stop.Stop.TheVariants as stops
-use Rattle.pp_desk.specs.Asked.{Asked, told_by, value_of}
 use Rattle.pp_desk.specs.Asking as asking
-use Rattle.pp_desk.specs.Course.{course, does}
-use Rattle.pp_desk.specs.Effects.{FromFile}
 use Rattle.pp_desk.specs.Script as scripts
-use Rattle.pp_desk.specs.Script.{Script, Give, Make, ReadFile}
-use Rattle.pp_desk.specs.Went.{Went, Ways, Goes, Halts, InPart, IsReply, after, content_within, parts}
-use Rattle.pp_desk.specs.World.{Told, World}
 use Rattle.pp_desk.proofs.AskedLemmas.{asks, at_rest, goes_by, halts_by, halts_now, same_told}
 use Rattle.pp_desk.proofs.Quiet.{Only, only_then}
-use Rattle.pp_model.specs.declared.loaded.Loaded.{Loaded}
-use Rattle.pp_model.specs.declared.profile.Profile.{Profile}
-use Rattle.pp_model.specs.declared.report.BaseKind.{BaseKind}
+use Rattle.pp_model.specs.Words.{Loaded, Profile, BaseKind}
 use Rattle.pp_options.specs.declared.origin.Origin.{Origin}
 use Rattle.pp_options.specs.declared.origin.Origin.TheVariants.{Path}
 use Rattle.pp_options.specs.declared.plan.Plan.{Plan}

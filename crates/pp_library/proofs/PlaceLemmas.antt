@@ -5,10 +5,8 @@ use Rattle.std.proofs.lemmas.Bool.{cases_eq, cases_lt, eq-eqb}
 use Rattle.std.proofs.lemmas.List.{append-nil, take_more, length-map, length-set, get_or-map, get_or-set_same, get_or-set_other, get_or-replicate, get_or_past, length-replicate}
 use Rattle.std.proofs.lemmas.List.Elements.{All-nil, All-cons, filter_map-append}
 use Rattle.std.proofs.lemmas.Option.{get_or_from_slice_get, slice_get_within}
-use Rattle.pp_model.specs.declared.profile.Profile.{Profile}
-use Rattle.pp_model.specs.FrameTexts.{Written}
-use Rattle.pp_grain.specs.declared.key.Key.{Key}
-use Rattle.pp_grain.specs.Keys.{key_cmp, key_written}
+use Rattle.pp_model.specs.Words.{Profile, Written}
+use Rattle.pp_grain.specs.Words.{Key, key_cmp, key_written}
 use Rattle.pp_count.specs.declared.edge.Edge.{Edge}
 use Rattle.pp_count.specs.EdgeSums.{AreEdgesOf, edge_occurs, edge_sum, edges_between}
 use Rattle.pp_count.specs.Sums.{Seen, has}

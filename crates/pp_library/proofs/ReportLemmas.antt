@@ -2,16 +2,10 @@
 use Rattle.std.proofs.Common.{◌≡◌, ℕ, List, Option, option_map, refl, subst}
 use Rattle.std.specs.Prelude.{Result, Ok, Err}
 use Rattle.std.specs.Borrow.{GName}
-use Rattle.pp_base.specs.Judges.{Answer}
-use Rattle.pp_desk.specs.declared.stop.Stop.{Stop}
-use Rattle.pp_desk.specs.Asked.{Asked, value_of, world_by}
-use Rattle.pp_desk.specs.Script.{Give, ◌>>=◌}
-use Rattle.pp_desk.specs.Went.{Went}
+use Rattle.pp_base.specs.Words.{Answer}
+use Rattle.pp_desk.specs.Words.{Stop, Asked, value_of, world_by, Give, ◌>>=◌, Went}
 use Rattle.pp_desk.proofs.AskedLemmas.{asked_by, asked_map}
-use Rattle.pp_model.specs.declared.config.Config.{Config}
-use Rattle.pp_model.specs.declared.loaded.Loaded.{Loaded}
-use Rattle.pp_model.specs.declared.report.BaseKind.{BaseKind}
-use Rattle.pp_model.specs.declared.report.Report.{Report}
+use Rattle.pp_model.specs.Words.{Config, Loaded, BaseKind, Report}
 use Rattle.pp_pattern.specs.Report.{Finds}
 use Rattle.pp_report.specs.declared.refusal.ReportRefusal.{ReportRefusal}
 use Rattle.pp_report.specs.Reports.{Reported, report_script, reported}

@@ -1,8 +1,8 @@
 -- The edges between the rows of figures.
 use Rattle.std.specs.Prelude.{◌≡◌, ℕ, ◌<◌, ◌==◌, ◌&&◌, List, [], ◌∷◌, length, slice_get, All, Some, if◌then◌else◌}
 use Rattle.std.specs.List.{filter}
-use Rattle.pp_model.specs.FrameTexts.{Written}
-use Rattle.pp_grain.specs.Keys.{key_cmp}
+use Rattle.pp_model.specs.Words.{Written}
+use Rattle.pp_grain.specs.Words.{key_cmp}
 use Rattle.pp_count.specs.EdgeSums.{edge_occurs, edge_sum}
 use Rattle.pp_count.specs.Sums.{Seen, has}
 use Rattle.pp_library.specs.declared.edging.FigureEdge.{FigureEdge}

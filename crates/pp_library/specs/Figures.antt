@@ -1,15 +1,10 @@
 -- The figures of a report as values: what the table report prints.
 use Rattle.std.specs.Prelude.{◌≡◌, ℕ, List, [], ◌++◌, map, Option, Some, option_map, Result, Ok, Err}
 use Rattle.std.specs.List.{flat_map}
-use Rattle.pp_desk.specs.Asking.{Asking}
+use Rattle.pp_desk.specs.Words.{Asking, Give}
 use Rattle.pp_desk.specs.Script as scripts
-use Rattle.pp_desk.specs.Script.{Give}
-use Rattle.pp_model.specs.declared.config.Config.{Config}
-use Rattle.pp_model.specs.declared.loaded.Loaded.{Loaded}
-use Rattle.pp_model.specs.declared.profile.Profile.{Profile}
-use Rattle.pp_model.specs.declared.report.BaseKind.{BaseKind}
+use Rattle.pp_model.specs.Words.{Config, Loaded, Profile, BaseKind, Finders}
 use Rattle.pp_model.specs.declared.report.Report.TheVariants.{Table}
-use Rattle.pp_model.specs.Finders.{Finders}
 use Rattle.pp_pattern.specs.Report.{Finds}
 use Rattle.pp_count.specs.Counted.{report_samples}
 use Rattle.pp_count.specs.Counts.{total_of}

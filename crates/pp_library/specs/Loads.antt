@@ -1,13 +1,8 @@
 -- What the bytes of one file load as.
 use Rattle.std.specs.Prelude.{◌≡◌, ℕ, List, [], ◌∷◌, length, nat_lt, Option, Some, None, option_map, Result, Ok, Err, if◌then◌else◌}
-use Rattle.pp_base.specs.FileMap.{FileMap, content_at, files_of}
-use Rattle.pp_base.specs.Judges.{Answer}
-use Rattle.pp_desk.specs.declared.input_line.InputLine.{InputLine}
-use Rattle.pp_desk.specs.Asking.{Asking, go_on}
-use Rattle.pp_desk.specs.Course.{course, does}
-use Rattle.pp_desk.specs.Effects.{FromFile}
-use Rattle.pp_model.specs.declared.loaded.Loaded.{Loaded}
-use Rattle.pp_model.specs.declared.profile.Profile.{Profile}
+use Rattle.pp_base.specs.Words.{FileMap, content_at, files_of, Answer}
+use Rattle.pp_desk.specs.Words.{InputLine, Asking, go_on, course, does, FromFile}
+use Rattle.pp_model.specs.Words.{Loaded, Profile}
 use Rattle.pp_options.specs.declared.plan.Plan.{Plan}
 use Rattle.pp_pattern.specs.Report.{Finds}
 use Rattle.pp_load.specs.declared.refusal.LoadRefusal.{LoadRefusal}

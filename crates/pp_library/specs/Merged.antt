@@ -1,9 +1,8 @@
 -- What profiles come to together.
 use Rattle.std.specs.Prelude.{◌^◌, Bool, false, ◌&&◌, List, length, nat_lt, Option, Some, None, option_map, Result, Ok, Err}
 use Rattle.std.specs.List.{list_all, sum_by}
-use Rattle.pp_desk.specs.Asking.{Asking, go_on}
-use Rattle.pp_model.specs.declared.loaded.Loaded.{Loaded}
-use Rattle.pp_model.specs.declared.profile.Profile.{Profile}
+use Rattle.pp_desk.specs.Words.{Asking, go_on}
+use Rattle.pp_model.specs.Words.{Loaded, Profile}
 use Rattle.pp_pattern.specs.Report.{Finds}
 use Rattle.pp_load.specs.declared.refusal.LoadRefusal.{LoadRefusal}
 use Rattle.pp_load.specs.declared.refusal.LoadRefusal.TheVariants as refusals

@@ -1,6 +1,6 @@
 //! The profile that the calls of this crate hand on.
 ghost use Rattle.std.specs.Prelude.{◌≡◌};
-ghost use Rattle.pp_model.specs.Sizes.{IsCountable};
+ghost use Rattle.pp_model.specs.Words.{IsCountable};
 
 use pp_model::{BaseKind, Loaded, Profile, Valid};
 

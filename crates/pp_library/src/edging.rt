@@ -1,7 +1,7 @@
 //! The edges between the rows of figures.
 ghost use Rattle.std.specs.Prelude.{◌≡◌, ◌≢◌, ◌<◌, false, length, replicate, All, AllPairs, None, IfOk};
 ghost use Rattle.std.specs.List.{filter_map};
-ghost use Rattle.pp_model.specs.Finders.{Finders};
+ghost use Rattle.pp_model.specs.Words.{Finders};
 ghost use Rattle.pp_count.specs.Counted.{report_samples};
 ghost use Rattle.pp_count.specs.Seeing.{HoldsFilters};
 ghost use Rattle.pp_graph.specs.Cuts.{kept_flags};

@@ -2,9 +2,9 @@
 ghost use Rattle.std.specs.Prelude.{◌≡◌, ◌∷◌, [], ℕ, List as Seq, Some, IfOk, IfErr};
 ghost use Rattle.pp_load.specs.Alone.{HasOneFile};
 ghost use Rattle.pp_merge.specs.Merge.{merged};
-ghost use Rattle.pp_model.specs.Sizes.{IsCountable};
+ghost use Rattle.pp_model.specs.Words.{IsCountable};
 ghost use Rattle.pp_pattern.specs.Load.{load_verdicts};
-ghost use Rattle.pp_desk.specs.Asked.{Asked, value_of};
+ghost use Rattle.pp_desk.specs.Words.{Asked, value_of};
 ghost use Rattle.pp_library.specs.Loads.{load_bytes, outcome_of, held_files, IsOfOne};
 
 use crate::countable::Countable;

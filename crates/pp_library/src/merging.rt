@@ -3,11 +3,9 @@ ghost use Rattle.std.specs.Prelude.{◌≡◌, ◌≢◌, ◌↔◌, ◌<◌, �
 ghost use Rattle.std.specs.List.{AllByRecursion, list_all, sum_by};
 ghost use Rattle.pp_load.specs.Reads.{loaded_or, with_verdicts};
 ghost use Rattle.pp_merge.specs.Merge.{Merges};
-ghost use Rattle.pp_model.specs.Rules.{NoRuleFails};
-ghost use Rattle.pp_model.specs.Sizes.{IsCountable};
-ghost use Rattle.pp_model.specs.Judged.{loaded_of};
+ghost use Rattle.pp_model.specs.Words.{NoRuleFails, IsCountable, loaded_of};
 ghost use Rattle.pp_pattern.specs.Load.{load_verdicts, drop_finder, keep_finder};
-ghost use Rattle.pp_desk.specs.Asked.{Asked, value_of};
+ghost use Rattle.pp_desk.specs.Words.{Asked, value_of};
 ghost use Rattle.pp_library.specs.Merged.{are_few, has_few_columns, merge_all, merge_outcome};
 ghost use Rattle.pp_library.specs.declared.merge_error.MergeError.TheVariants as errors;
 

@@ -1,6 +1,6 @@
 //! The text of a report.
 ghost use Rattle.std.specs.Prelude.{◌≡◌, false};
-ghost use Rattle.pp_desk.specs.Asked.{Asked, value_of};
+ghost use Rattle.pp_desk.specs.Words.{Asked, value_of};
 ghost use Rattle.pp_library.specs.Reports.{reads_sources, report_text, report_outcome};
 
 use crate::countable::Countable;

@@ -1,9 +1,8 @@
 //! The figures of a report as values.
 ghost use Rattle.std.specs.Prelude.{◌≡◌, ◌<◌, ◌⊎◌, ℕ, All, length, map, None, Option, option_map, IfOk, pos, slice_index_or};
 ghost use Rattle.pp_model.specs.declared.report.Report.TheVariants.{Table};
-ghost use Rattle.pp_model.specs.Finders.{Finders};
-ghost use Rattle.pp_grain.specs.Keys.{IsKeyOf, key_written};
-ghost use Rattle.pp_grain.specs.Naming.{name_text};
+ghost use Rattle.pp_model.specs.Words.{Finders};
+ghost use Rattle.pp_grain.specs.Words.{IsKeyOf, key_written, name_text};
 ghost use Rattle.pp_count.specs.Counted.{FitSums};
 ghost use Rattle.pp_count.specs.Seeing.{HoldsFilters};
 ghost use Rattle.pp_graph.specs.KeyRows.{row_at};
@@ -11,7 +10,7 @@ ghost use Rattle.pp_graph.specs.Trim.{node_limit};
 ghost use Rattle.pp_report.specs.Heads.{kind_text, unit_text};
 ghost use Rattle.pp_report.specs.Prepared.{answered, AreCounts, HasCounts, IsPrepared};
 ghost use Rattle.pp_report.specs.Tagged.{basis_of};
-ghost use Rattle.pp_desk.specs.Asked.{Asked, value_of};
+ghost use Rattle.pp_desk.specs.Words.{Asked, value_of};
 ghost use Rattle.pp_library.specs.Figures.{figure_of, figures_by, figures_on, figures_settled, table_with, without_edges, table_figures, figures_outcome, HasEdges, HasEdgesOn, HasEdgesBy};
 
 use crate::countable::Countable;

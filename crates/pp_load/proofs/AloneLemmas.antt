@@ -2,21 +2,12 @@
 use Rattle.std.proofs.Common.{◌≡◌, ℕ, ◌+◌, ◌≤◌, ◌<◌, Bool, true, false, List, [], ◌∷◌, length, refl, sym, ap, ◌∙◌, arith, if◌then◌else◌}
 use Rattle.std.specs.Prelude.{Option, Some, None, is_some, nat_lt, Result, Ok, Err}
 use Rattle.std.proofs.lemmas.Bool.{le-ltb}
-use Rattle.pp_base.specs.FileMap.{FileMap, content_at}
-use Rattle.pp_base.specs.Judges.{Answer}
-use Rattle.pp_desk.specs.declared.file_content.FileContent.{FileContent}
+use Rattle.pp_base.specs.Words.{FileMap, content_at, Answer}
+use Rattle.pp_desk.specs.Words.{FileContent, InputLine, Course, course, does, FromFile, Give, content_within}
 use Rattle.pp_desk.specs.declared.file_content.FileContent.TheVariants as contents
-use Rattle.pp_desk.specs.declared.input_line.InputLine.{InputLine}
 use Rattle.pp_desk.specs.Asking as asking
-use Rattle.pp_desk.specs.Course.{Course, course, does}
-use Rattle.pp_desk.specs.Effects.{FromFile}
 use Rattle.pp_desk.specs.Script as scripts
-use Rattle.pp_desk.specs.Script.{Give}
-use Rattle.pp_desk.specs.Went.{content_within}
-use Rattle.pp_model.specs.declared.loaded.Loaded.{Loaded}
-use Rattle.pp_model.specs.declared.profile.Profile.{Profile}
-use Rattle.pp_model.specs.declared.report.BaseKind.{BaseKind}
-use Rattle.pp_model.specs.Judged.{loaded_of}
+use Rattle.pp_model.specs.Words.{Loaded, Profile, BaseKind, loaded_of}
 use Rattle.pp_merge.specs.Merge.{merged}
 use Rattle.pp_options.specs.declared.origin.Origin.{Origin}
 use Rattle.pp_options.specs.declared.origin.Origin.TheVariants.{Path}

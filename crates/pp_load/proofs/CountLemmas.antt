@@ -7,10 +7,7 @@ use Rattle.std.proofs.lemmas.Bool.{ltb-false, ne_eqb}
 use Rattle.std.proofs.lemmas.List.{length-map}
 use Rattle.std.proofs.lemmas.List.Sums.{sum_by-cons}
 use Rattle.pp_base.proofs.Lists.{all_by}
-use Rattle.pp_model.specs.declared.profile.Sample.{Sample}
-use Rattle.pp_model.specs.declared.profile.Profile.{Profile}
-use Rattle.pp_model.specs.Rules.{NoRuleFails}
-use Rattle.pp_model.specs.Sizes.{IsCountable, absolute_sum, value_in}
+use Rattle.pp_model.specs.Words.{Sample, Profile, NoRuleFails, IsCountable, absolute_sum, value_in}
 use Rattle.pp_share.specs.Header.{type_text}
 use Rattle.pp_merge.specs.Merge.{too_large, merged}
 use Rattle.pp_merge.specs.Scale.{scaled_value, normalized_value, normalized_values, normalized_sample, normalized}

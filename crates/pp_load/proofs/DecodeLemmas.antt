@@ -6,8 +6,7 @@ use Rattle.pp_wire.specs.declared.fault.WireFault.{WireFault}
 use Rattle.pp_wire.specs.Walk.{walk_in}
 use Rattle.pp_wire.specs.Fields.{field, field_in, number_in}
 use Rattle.pp_wire.specs.Varint.{groups, varint}
-use Rattle.pp_model.specs.declared.profile.Profile.{Profile}
-use Rattle.pp_model.specs.Rules.{NoRuleFails}
+use Rattle.pp_model.specs.Words.{Profile, NoRuleFails}
 use Rattle.pp_tables.specs.declared.refusal.ReadRefusal.{ReadRefusal}
 use Rattle.pp_tables.specs.declared.refusal.ReadRefusal.TheVariants as reading
 use Rattle.pp_tables.specs.Read.{read}

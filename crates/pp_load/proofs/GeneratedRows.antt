@@ -11,8 +11,7 @@ use Rattle.pp_share.specs.Alike.{same_sample, first_alike}
 use Rattle.pp_share.specs.Described.{FunctionText, MappingText, LineText, LocationText, LabelText, SampleText, location_found, sample_text}
 use Rattle.pp_share.specs.Sums.{added, counts, keys_of, sum_of}
 use Rattle.pp_share.proofs.NumberedLemmas.{all_mapped}
-use Rattle.pp_model.specs.FirstSight.{distinct}
-use Rattle.pp_model.specs.Lookup.{text_of}
+use Rattle.pp_model.specs.Words.{distinct, text_of}
 use Rattle.pp_tables.specs.Fits.{IsInt}
 use Rattle.pp_merge.specs.Merge.{all_mappings, all_samples, contents}
 use Rattle.pp_merge.proofs.SettledLemmas.{all_join, all_distinct, all_filtered}

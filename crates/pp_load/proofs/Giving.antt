@@ -1,13 +1,9 @@
 -- How values that may be refused follow one another, and how they are given by a script.
 use Rattle.std.proofs.Common.{◌≡◌, refl, sym, ap, ◌∙◌}
 use Rattle.std.specs.Prelude.{Result, Ok, Err}
-use Rattle.pp_desk.specs.declared.halt.Halt.{Halt}
+use Rattle.pp_desk.specs.Words.{Halt, settled, Give, World, Went}
 use Rattle.pp_desk.specs.declared.halt.Halt.TheVariants as halts
 use Rattle.pp_desk.specs.declared.stop.Stop.TheVariants as stops
-use Rattle.pp_desk.specs.Asking.{settled}
-use Rattle.pp_desk.specs.Script.{Give}
-use Rattle.pp_desk.specs.World.{World}
-use Rattle.pp_desk.specs.Went.{Went}
 use Rattle.pp_desk.proofs.Going.{gives, wants}
 use Rattle.pp_load.specs.declared.refusal.LoadRefusal.{LoadRefusal}
 use Rattle.pp_load.specs.Steps.{Loading, ◌>>=◌, Loads}

@@ -6,16 +6,14 @@ use Rattle.std.specs.List.{AllByRecursion}
 use Rattle.std.proofs.lemmas.List.{length-take, length-drop, length-map}
 use Rattle.std.proofs.lemmas.List.Sums.{sum_by-take-drop}
 use Rattle.pp_base.proofs.Lists.{all_by}
-use Rattle.pp_model.specs.declared.profile.Profile.{Profile}
-use Rattle.pp_model.specs.declared.report.BaseKind.{BaseKind}
+use Rattle.pp_model.specs.Words.{Profile, BaseKind, NoRuleFails}
 use Rattle.pp_model.specs.declared.report.BaseKind.TheVariants.{Base, DiffBase}
-use Rattle.pp_model.specs.Rules.{NoRuleFails}
 use Rattle.pp_merge.specs.declared.refusal.MergeRefusal.{MergeRefusal}
 use Rattle.pp_merge.specs.declared.refusal.MergeRefusal.TheVariants as merge
 use Rattle.pp_merge.specs.Merge.{difference, too_large, merged, Merges}
 use Rattle.pp_merge.specs.Scale.{negated, normalized, normalized_sample}
 use Rattle.pp_merge.proofs.NegatedLemmas.{negated_agrees, negated_length, negated_valid}
-use Rattle.pp_desk.specs.declared.halt.Halt.{Halt}
+use Rattle.pp_desk.specs.Words.{Halt}
 use Rattle.pp_load.specs.declared.refusal.LoadRefusal.{LoadRefusal}
 use Rattle.pp_load.specs.declared.refusal.LoadRefusal.TheVariants as refusals
 use Rattle.pp_load.specs.Steps.{unless, Loads}

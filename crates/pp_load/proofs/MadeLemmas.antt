@@ -7,9 +7,7 @@ use Rattle.std.proofs.lemmas.List.{append_assoc}
 use Rattle.std.proofs.lemmas.List.Elements.{All-from_recursion}
 use Rattle.std.proofs.lemmas.List.FromFn.{map-range_with_len_more, length-map-range_with_len}
 use Rattle.std.proofs.lemmas.List.Sums.{sum_by-le}
-use Rattle.pp_model.specs.declared.profile.Sample.{Sample}
-use Rattle.pp_model.specs.Rules.{NoRuleFails, label_has_texts, stands_in, zero_unless}
-use Rattle.pp_model.specs.Sizes.{IsCountable, value_in}
+use Rattle.pp_model.specs.Words.{Sample, NoRuleFails, label_has_texts, stands_in, zero_unless, IsCountable, value_in}
 use Rattle.pp_share.proofs.NumberedLemmas.{nowhere}
 use Rattle.pp_load.specs.Generator.{made, made_sample, made_location, ids_down}
 

@@ -2,18 +2,14 @@
 use Rattle.std.proofs.Common.{◌≡◌, ◌+◌, ◌<◌, ◌≤◌, ◌^◌, ℕ, List, [], ◌∷◌, length, drop, get_or, sym, ap, ◌∙◌, arith}
 use Rattle.std.specs.Prelude.{Ok, Err}
 use Rattle.std.proofs.lemmas.List.{at_drop_more, at_drop_all}
-use Rattle.pp_desk.specs.World.{World}
-use Rattle.pp_desk.specs.Went.{Went, IsOnWay}
+use Rattle.pp_desk.specs.Words.{World, Went, IsOnWay, Halt, Asking, settled}
 use Rattle.pp_desk.proofs.Looping.{arrives, moves_on}
 use Rattle.pp_desk.proofs.Going.{gives}
-use Rattle.pp_desk.specs.declared.halt.Halt.{Halt}
 use Rattle.pp_desk.specs.declared.halt.Halt.TheVariants as halts
-use Rattle.pp_desk.specs.Asking.{Asking, ◌>>=◌, settled}
+use Rattle.pp_desk.specs.Asking.{◌>>=◌}
 use Rattle.pp_desk.proofs.AskingLemmas.{asking_stops, asking_refused}
 use Rattle.std.proofs.lemmas.List.Sums.{sum_by-append}
-use Rattle.pp_model.specs.declared.profile.Profile.{Profile}
-use Rattle.pp_model.specs.Rules.{NoRuleFails}
-use Rattle.pp_model.specs.Sizes.{HasAtMost}
+use Rattle.pp_model.specs.Words.{Profile, NoRuleFails, HasAtMost}
 use Rattle.pp_merge.proofs.SettledLemmas.{all_join}
 use Rattle.pp_load.specs.Reads.{size_limit}
 use Rattle.pp_load.specs.Joining.{HasStarts}

@@ -10,8 +10,7 @@ use Rattle.std.proofs.lemmas.Int.Digits.{digits_value-lt}
 use Rattle.std.proofs.lemmas.List.{length-take}
 use Rattle.std.proofs.lemmas.Option.{none-some, same_Some}
 use Rattle.pp_base.proofs.Lists.{all_by}
-use Rattle.pp_model.specs.declared.profile.Mapping.{Mapping}
-use Rattle.pp_model.specs.declared.profile.Profile.{Profile}
+use Rattle.pp_model.specs.Words.{Mapping, Profile}
 use Rattle.pp_check.specs.FirstFault.{first_fault}
 use Rattle.pp_legacy.specs.Header.{header}
 use Rattle.pp_legacy.specs.Legacy.{is_legacy, legacy}
@@ -36,7 +35,7 @@ use Rattle.pp_load.specs.Steps.{◌>>=◌, Loads}
 use Rattle.pp_load.specs.Decode.{legacy_given, tables_given, checked, tables_of, decoded}
 use Rattle.pp_load.specs.Joining.{HasStarts}
 use Rattle.pp_load.proofs.KindLemmas.{nothing_found}
-use Rattle.pp_base.specs.Marks.{is_line_end}
+use Rattle.pp_base.specs.Words.{is_line_end}
 use Rattle.pp_base.specs.Results as results
 
 -- a number of at most 16 hexadecimal digits has 64 bits

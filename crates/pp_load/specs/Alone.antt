@@ -1,13 +1,8 @@
 -- What a profile loads as that one file holds.
 use Rattle.std.specs.Prelude.{◌≡◌, ◌≤◌, ℕ, List, [], ◌∷◌, length, Option, Some, None, Ok}
-use Rattle.pp_base.specs.FileMap.{FileMap, content_at}
-use Rattle.pp_base.specs.Judges.{Answer}
-use Rattle.pp_desk.specs.declared.input_line.InputLine.{InputLine}
-use Rattle.pp_desk.specs.Course.{course}
-use Rattle.pp_desk.specs.Effects.{FromFile}
-use Rattle.pp_model.specs.declared.profile.Profile.{Profile}
-use Rattle.pp_model.specs.Judged.{loaded_of}
-use Rattle.pp_model.specs.Lookup.{text_of}
+use Rattle.pp_base.specs.Words.{FileMap, content_at, Answer}
+use Rattle.pp_desk.specs.Words.{InputLine, course, FromFile}
+use Rattle.pp_model.specs.Words.{Profile, loaded_of, text_of}
 use Rattle.pp_merge.specs.Merge.{too_large, merged}
 use Rattle.pp_options.specs.declared.origin.Origin.TheVariants.{Path}
 use Rattle.pp_options.specs.declared.plan.Plan.{Plan}

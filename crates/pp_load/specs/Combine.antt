@@ -1,7 +1,6 @@
 -- The profile that sources and bases come to together, or why they come to none.
 use Rattle.std.specs.Prelude.{ℕ, Bool, List, [], ◌∷◌, length, take, drop, Option, Some, None, Ok, if◌then◌else◌}
-use Rattle.pp_model.specs.declared.profile.Profile.{Profile}
-use Rattle.pp_model.specs.declared.report.BaseKind.{BaseKind}
+use Rattle.pp_model.specs.Words.{Profile, BaseKind}
 use Rattle.pp_tables.specs.Tables.{no_profile}
 use Rattle.pp_merge.specs.Merge.{disagreeing, too_large, merged}
 use Rattle.pp_merge.specs.Scale.{normalized, nothing_to_scale, negated}

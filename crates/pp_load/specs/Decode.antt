@@ -1,6 +1,6 @@
 -- The profile that the bytes of one source are, or why they are none.
 use Rattle.std.specs.Prelude.{ℕ, List, Result, Ok, Err, if◌then◌else◌}
-use Rattle.pp_model.specs.declared.profile.Profile.{Profile}
+use Rattle.pp_model.specs.Words.{Profile}
 use Rattle.pp_tables.specs.declared.refusal.ReadRefusal.{ReadRefusal}
 use Rattle.pp_tables.specs.declared.refusal.ReadRefusal.TheVariants as reading
 use Rattle.pp_tables.specs.Read.{read}

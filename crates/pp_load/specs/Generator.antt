@@ -1,10 +1,7 @@
 -- The synthetic profile of a number of samples, over nine functions.
 use Rattle.std.specs.Prelude.{ℕ, ◌+◌, ◌*◌, ◌%◌, suc, zero, pos, false, List, [], ◌∷◌, ◌++◌, map, codes}
 use Rattle.std.specs.List.{range_with_len}
-use Rattle.pp_model.specs.declared.profile.Function.{Function}
-use Rattle.pp_model.specs.declared.profile.Location.{Location}
-use Rattle.pp_model.specs.declared.profile.Profile.{Profile}
-use Rattle.pp_model.specs.declared.profile.Sample.{Sample}
+use Rattle.pp_model.specs.Words.{Function, Location, Profile, Sample}
 use Rattle.pp_merge.specs.Merge.{merged}
 use Rattle.pp_tables.specs.Encode.{encode}
 

@@ -1,14 +1,12 @@
 -- What is known of profiles while they become one. No public clause cites it.
 use Rattle.std.specs.Prelude.{◌≡◌, ℕ, ◌+◌, ◌≤◌, ◌<◌, ◌^◌, List, [], ◌∷◌, map, length}
 use Rattle.std.specs.List.{AllByRecursion, sum_by}
-use Rattle.pp_model.specs.declared.profile.Profile.{Profile}
-use Rattle.pp_model.specs.Rules.{NoRuleFails}
-use Rattle.pp_model.specs.Sizes.{IsCountable}
+use Rattle.pp_model.specs.Words.{Profile, NoRuleFails, IsCountable}
 use Rattle.pp_merge.specs.declared.refusal.MergeRefusal.{MergeRefusal}
 use Rattle.pp_merge.specs.declared.refusal.MergeRefusal.TheVariants as merging
 use Rattle.pp_share.specs.Header.{TypeText, type_text}
 use Rattle.pp_merge.specs.Merge.{merged}
-use Rattle.pp_desk.specs.declared.halt.Halt.{Halt}
+use Rattle.pp_desk.specs.Words.{Halt}
 use Rattle.pp_desk.specs.declared.halt.Halt.TheVariants as halts
 use Rattle.pp_desk.specs.declared.stop.Stop.TheVariants as stops
 use Rattle.pp_load.specs.declared.refusal.LoadRefusal.{LoadRefusal}

@@ -1,9 +1,9 @@
 -- How the profile of a plan is loaded: which files are read, and in which order, and what comes of them. The first
 -- refusal ends all, so that nothing more is read or asked.
 use Rattle.std.specs.Prelude.{ℕ, List, [], ◌∷◌, length, Result, Ok}
-use Rattle.pp_desk.specs.Script.{Script, Give}
-use Rattle.pp_desk.specs.Asking.{Asking, ◌>>=◌}
-use Rattle.pp_model.specs.declared.loaded.Loaded.{Loaded}
+use Rattle.pp_desk.specs.Words.{Script, Give, Asking}
+use Rattle.pp_desk.specs.Asking.{◌>>=◌}
+use Rattle.pp_model.specs.Words.{Loaded}
 use Rattle.pp_options.specs.declared.origin.Origin.{Origin}
 use Rattle.pp_options.specs.declared.origin.Origin.TheVariants.{Path, Gen}
 use Rattle.pp_options.specs.declared.plan.Plan.{Plan}

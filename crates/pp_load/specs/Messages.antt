@@ -11,7 +11,7 @@ use Rattle.pp_merge.specs.declared.refusal.What.TheVariants as types
 use Rattle.pp_options.specs.declared.origin.Origin.{Origin}
 use Rattle.pp_options.specs.declared.origin.Origin.TheVariants.{Path, Gen}
 use Rattle.pp_options.specs.declared.plan.Plan.{Plan}
-use Rattle.pp_units.specs.Rows.{numbered}
+use Rattle.pp_units.specs.Words.{numbered}
 use Rattle.pp_load.specs.declared.refusal.LoadRefusal.{LoadRefusal}
 use Rattle.pp_load.specs.declared.refusal.LoadRefusal.TheVariants as refusals
 

@@ -1,12 +1,8 @@
 -- The steps of loading: the read of a path, and the patterns of a profile.
 use Rattle.std.specs.Prelude.{ℕ, Bool, List, Option, Result, Ok, Err}
-use Rattle.pp_desk.specs.declared.file_content.FileContent.{FileContent}
+use Rattle.pp_desk.specs.Words.{FileContent, Give, ◌>>=◌, read_file, Asking}
 use Rattle.pp_desk.specs.declared.file_content.FileContent.TheVariants as contents
-use Rattle.pp_desk.specs.Script.{Give, ◌>>=◌, read_file}
-use Rattle.pp_desk.specs.Asking.{Asking}
-use Rattle.pp_model.specs.declared.loaded.Loaded.{Loaded}
-use Rattle.pp_model.specs.declared.profile.Profile.{Profile}
-use Rattle.pp_model.specs.Judged.{loaded_of}
+use Rattle.pp_model.specs.Words.{Loaded, Profile, loaded_of}
 use Rattle.pp_pattern.specs.declared.load.FramesRefused.{FramesRefused}
 use Rattle.pp_pattern.specs.declared.load.FramesRefused.TheVariants as frames
 use Rattle.pp_pattern.specs.Load.{judge_load, drop_finder, keep_finder}

@@ -1,8 +1,7 @@
 -- What is read of sources and bases, one after another: their profiles and how many bytes they have together.
 use Rattle.std.specs.Prelude.{ℕ, ◌+◌, ◌≤◌, ◌<◌, ◌^◌, List, [], ◌∷◌, ◌++◌, length, nat_lt, Ok, Err, if◌then◌else◌}
 use Rattle.std.specs.List.{AllByRecursion, sum_by}
-use Rattle.pp_model.specs.declared.profile.Profile.{Profile}
-use Rattle.pp_model.specs.Rules.{NoRuleFails}
+use Rattle.pp_model.specs.Words.{Profile, NoRuleFails}
 use Rattle.pp_load.specs.declared.reading.Read.{Read}
 use Rattle.pp_load.specs.declared.refusal.LoadRefusal.TheVariants as refusals
 use Rattle.pp_load.specs.Steps.{Loading, ◌>>=◌}

@@ -1,6 +1,6 @@
 -- Values that may be refused.
 use Rattle.std.specs.Prelude.{◌≡◌, Option, Some, None, Result, Ok, Err}
-use Rattle.pp_desk.specs.declared.halt.Halt.{Halt}
+use Rattle.pp_desk.specs.Words.{Halt}
 use Rattle.pp_desk.specs.declared.halt.Halt.TheVariants as halts
 use Rattle.pp_desk.specs.declared.stop.Stop.TheVariants as stops
 use Rattle.pp_load.specs.declared.refusal.LoadRefusal.{LoadRefusal}

@@ -5,7 +5,7 @@ ghost use Rattle.pp_legacy.specs.Legacy.{is_legacy, legacy};
 ghost use Rattle.pp_tables.specs.Read.{read};
 ghost use Rattle.pp_load.specs.Steps.{Loads};
 ghost use Rattle.pp_load.specs.Decode.{legacy_given, tables_given, checked, tables_of, decoded};
-ghost use Rattle.pp_model.specs.Sizes.{HasAtMost};
+ghost use Rattle.pp_model.specs.Words.{HasAtMost};
 
 use crate::refusal::LoadRefusal;
 use pp_check::{CheckRefusal, check_on};

@@ -1,7 +1,6 @@
 //! What holds of any bytes. These functions do nothing: their clauses are the laws.
 ghost use Rattle.std.specs.Prelude.{◌≡◌, ◌<◌, ◌^◌, ℕ, true, false, List, length, Ok};
-ghost use Rattle.pp_model.specs.declared.profile.Profile.{Profile};
-ghost use Rattle.pp_model.specs.Rules.{NoRuleFails};
+ghost use Rattle.pp_model.specs.Words.{Profile, NoRuleFails};
 ghost use Rattle.pp_tables.specs.Fits.{ProfileFits};
 ghost use Rattle.pp_tables.specs.Encode.{encode};
 ghost use Rattle.pp_tables.specs.Read.{read};

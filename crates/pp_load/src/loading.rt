@@ -1,8 +1,7 @@
 //! From the sources and bases of a plan to the profile that reports are made of.
 ghost use Rattle.std.specs.Prelude.{◌≡◌, ◌+◌, [], length, IfOk};
-ghost use Rattle.pp_desk.specs.Went.{Went};
-ghost use Rattle.pp_desk.specs.Asking.{settled};
-ghost use Rattle.pp_model.specs.Sizes.{IsCountable};
+ghost use Rattle.pp_desk.specs.Words.{Went, settled};
+ghost use Rattle.pp_model.specs.Words.{IsCountable};
 ghost use Rattle.pp_pattern.specs.Load.{load_verdicts};
 ghost use Rattle.pp_merge.specs.Merge.{merged};
 ghost use Rattle.pp_load.specs.Steps.{Loads};

@@ -1,6 +1,6 @@
 //! The lines that tell why no profile is loaded.
 ghost use Rattle.std.specs.Prelude.{◌≡◌, ◌++◌, codes, Some, IfOk};
-ghost use Rattle.pp_units.specs.Rows.{numbered};
+ghost use Rattle.pp_units.specs.Words.{numbered};
 ghost use Rattle.pp_load.specs.Messages.{origin_text, source_text, wire_text, legacy_text, table_text, what_text, subject_text, reason_text, refusal_line};
 
 use crate::refusal::LoadRefusal;

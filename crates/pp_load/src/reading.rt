@@ -1,9 +1,8 @@
 //! The sources and bases of a plan, read one after another.
 ghost use Rattle.std.specs.Prelude.{◌≡◌, ◌+◌, ◌<◌, ◌≤◌, ◌^◌, length, IfOk, IsOk, IsTrue};
 ghost use Rattle.std.specs.List.{list_all};
-ghost use Rattle.pp_desk.specs.Went.{Went};
-ghost use Rattle.pp_desk.specs.Asking.{settled};
-ghost use Rattle.pp_model.specs.Sizes.{HasAtMost};
+ghost use Rattle.pp_desk.specs.Words.{Went, settled};
+ghost use Rattle.pp_model.specs.Words.{HasAtMost};
 ghost use Rattle.pp_options.specs.Conditions.{is_fair};
 ghost use Rattle.pp_load.specs.Steps.{Loads};
 ghost use Rattle.pp_load.specs.Joining.{HasStarts};

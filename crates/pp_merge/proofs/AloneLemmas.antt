@@ -5,8 +5,7 @@ use Rattle.std.specs.List.{position, position_or_len, range_with_len, sum_by}
 use Rattle.std.proofs.lemmas.Bool.{ltb-true, false_from_ne_true}
 use Rattle.std.proofs.lemmas.List.FromFn.{length-range_with_len, get_or-range_with_len}
 use Rattle.std.proofs.lemmas.List.Sums.{position_or_len_is, sum_by-cons}
-use Rattle.pp_model.specs.declared.profile.Profile.{Profile}
-use Rattle.pp_model.specs.Sizes.{IsCountable, absolute_sum}
+use Rattle.pp_model.specs.Words.{Profile, IsCountable, absolute_sum}
 use Rattle.pp_merge.specs.Merge.{too_large}
 
 -- a place past the end is none

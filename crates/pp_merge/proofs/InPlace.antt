@@ -5,16 +5,7 @@ use Rattle.std.specs.List.{All, list_all}
 use Rattle.std.proofs.lemmas.Bool.{and_parts, eqb-true, or_cases}
 use Rattle.std.proofs.lemmas.List.{length-map}
 use Rattle.std.proofs.lemmas.List.Sums.{AllPass-from_list_all}
-use Rattle.pp_model.specs.declared.profile.ValueType.{ValueType}
-use Rattle.pp_model.specs.declared.profile.Label.{Label}
-use Rattle.pp_model.specs.declared.profile.Sample.{Sample}
-use Rattle.pp_model.specs.declared.profile.Mapping.{Mapping}
-use Rattle.pp_model.specs.declared.profile.Line.{Line}
-use Rattle.pp_model.specs.declared.profile.Location.{Location}
-use Rattle.pp_model.specs.declared.profile.Function.{Function}
-use Rattle.pp_model.specs.declared.profile.Profile.{Profile}
-use Rattle.pp_model.specs.Lookup.{text_number}
-use Rattle.pp_model.specs.Rules.{NoRuleFails, AreNumbered, is_text, is_zero_or_in, stands_in, first_failing, header_texts, type_has_texts, label_has_texts, mapping_has_texts, function_has_texts, location_refers, mapping_ids, function_ids, location_ids}
+use Rattle.pp_model.specs.Words.{ValueType, Label, Sample, Mapping, Line, Location, Function, Profile, text_number, NoRuleFails, AreNumbered, is_text, is_zero_or_in, stands_in, first_failing, header_texts, type_has_texts, label_has_texts, mapping_has_texts, function_has_texts, location_refers, mapping_ids, function_ids, location_ids}
 use Rattle.pp_model.proofs.CompactLemmas.{place_of, id_at}
 use Rattle.pp_model.proofs.FirstText.{no_fault}
 use Rattle.pp_model.proofs.RuleLemmas.{passes, contains_from, text_below, text_is}

@@ -8,15 +8,10 @@ use Rattle.std.specs.Str.{bytes_eq}
 use Rattle.std.proofs.lemmas.Bool.{cases_lt}
 use Rattle.std.proofs.lemmas.Slice.Eq.{bytes_eq-Decides}
 use Rattle.std.proofs.lemmas.List.{length-map, map-append, append-nil}
-use Rattle.pp_model.specs.declared.profile.Mapping.{Mapping}
-use Rattle.pp_model.specs.declared.profile.Location.{Location}
-use Rattle.pp_model.specs.declared.profile.Function.{Function}
-use Rattle.pp_model.specs.declared.profile.Profile.{Profile}
-use Rattle.pp_model.specs.Lookup.{text_number, text_of}
+use Rattle.pp_model.specs.Words.{Mapping, Location, Function, Profile, text_number, text_of, distinct}
 use Rattle.pp_merge.specs.declared.join.Sizes.{Sizes}
 use Rattle.pp_share.specs.Behind.{behind_id}
 use Rattle.pp_share.specs.Ids.{index_of_id}
-use Rattle.pp_model.specs.FirstSight.{distinct}
 use Rattle.pp_share.specs.Described.{mapping_text, sample_text, samples_found}
 use Rattle.pp_share.specs.Alike.{first_alike}
 use Rattle.pp_share.specs.Header.{header_of, type_text, first_nonempty, greater, earlier}

@@ -6,7 +6,7 @@ use Rattle.std.specs.Bool.{Decides}
 use Rattle.std.specs.List.{AllByRecursion}
 use Rattle.std.proofs.lemmas.Bool.{not-false}
 use Rattle.std.proofs.Math.IntN.{+ℤ_idl}
-use Rattle.pp_model.specs.FirstSight.{distinct}
+use Rattle.pp_model.specs.Words.{distinct}
 use Rattle.pp_share.specs.Sums.{counts, keys_of, rows_of, summed, sum_of}
 use Rattle.pp_merge.specs.Totals.{value_passing, sum_passing}
 use Rattle.pp_share.proofs.DistinctLemmas.{deciding_laws}

@@ -11,15 +11,7 @@ use Rattle.std.proofs.lemmas.List.FromFn.{get_or-range_with_len, length-range_wi
 use Rattle.std.proofs.lemmas.List.Sums.{sum_by-append, sum_by-cons, fails_before_first}
 use Rattle.std.proofs.lemmas.Option.{none-some}
 use Rattle.pp_base.proofs.Lists.{all_of_map}
-use Rattle.pp_model.specs.declared.profile.Mapping.{Mapping}
-use Rattle.pp_model.specs.declared.profile.Location.{Location}
-use Rattle.pp_model.specs.declared.profile.Function.{Function}
-use Rattle.pp_model.specs.declared.profile.Label.{Label}
-use Rattle.pp_model.specs.declared.profile.Sample.{Sample}
-use Rattle.pp_model.specs.declared.profile.Profile.{Profile}
-use Rattle.pp_model.specs.Rules.{NoRuleFails, IsCompact, first_failing, begins_empty, zero_unless, stands_in, location_ids, is_text, is_text_of, label_has_texts}
-use Rattle.pp_model.specs.Lookup.{text_number}
-use Rattle.pp_model.specs.Sizes.{absolute_sum, value_in}
+use Rattle.pp_model.specs.Words.{Mapping, Location, Function, Label, Sample, Profile, NoRuleFails, IsCompact, first_failing, begins_empty, zero_unless, stands_in, location_ids, is_text, is_text_of, label_has_texts, text_number, absolute_sum, value_in, distinct}
 use Rattle.pp_model.proofs.FirstText.{first_empty, no_fault, some_text}
 use Rattle.pp_model.proofs.RuleLemmas.{passes, text_below}
 use Rattle.pp_merge.specs.declared.refusal.What.{What}
@@ -34,7 +26,6 @@ use Rattle.pp_share.specs.Ids.{place_id, index_of_id}
 use Rattle.pp_share.specs.Header.{type_text}
 use Rattle.pp_share.specs.Alike.{same_sample}
 use Rattle.pp_share.specs.Sums.{counts, keys_of, sum_of, rows_of, summed}
-use Rattle.pp_model.specs.FirstSight.{distinct}
 use Rattle.pp_share.specs.Described.{SampleText}
 use Rattle.pp_merge.specs.Merge.{same_type, has_types_of, has_period_type_of, difference, disagreeing, too_large, all_samples, contents, merged, Merges}
 use Rattle.pp_share.specs.Written.{FitsTypes, written}

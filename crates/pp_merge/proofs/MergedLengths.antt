@@ -12,17 +12,9 @@ use Rattle.std.proofs.lemmas.List.Sums.{sum_by-cons}
 use Rattle.std.proofs.lemmas.Option.{none-some, same_Some}
 use Rattle.std.proofs.lemmas.Slice.Eq.{bytes_eq-Decides}
 use Rattle.pp_base.proofs.Lists.{all_by}
-use Rattle.pp_model.specs.declared.profile.Mapping.{Mapping}
-use Rattle.pp_model.specs.declared.profile.Location.{Location}
-use Rattle.pp_model.specs.declared.profile.Function.{Function}
-use Rattle.pp_model.specs.declared.profile.Label.{Label}
-use Rattle.pp_model.specs.declared.profile.Sample.{Sample}
-use Rattle.pp_model.specs.declared.profile.Profile.{Profile}
-use Rattle.pp_model.specs.Lookup.{text_of, location_with}
-use Rattle.pp_model.specs.Rules.{NoRuleFails, begins_empty, zero_unless, is_text, header_texts, type_has_texts, label_has_texts, mapping_has_texts, function_has_texts, stands_in, location_ids}
+use Rattle.pp_model.specs.Words.{Mapping, Location, Function, Label, Sample, Profile, text_of, location_with, NoRuleFails, begins_empty, zero_unless, is_text, header_texts, type_has_texts, label_has_texts, mapping_has_texts, function_has_texts, stands_in, location_ids, distinct}
 use Rattle.pp_model.proofs.FirstText.{no_fault}
 use Rattle.pp_model.proofs.RuleLemmas.{passes}
-use Rattle.pp_model.specs.FirstSight.{distinct}
 use Rattle.pp_share.specs.Described.{FunctionText, MappingText, LocationText, LabelText, SampleText, function_text, mapping_text, function_found, mapping_found, line_text, label_text, location_text, location_found, sample_text, samples_found, nowhere}
 use Rattle.pp_share.specs.Alike.{same_function, same_mapping, equal_mapping, same_location, same_sample, first_alike}
 use Rattle.pp_share.specs.Header.{type_text, first_nonempty}

@@ -10,22 +10,12 @@ use Rattle.std.proofs.lemmas.List.{length-map, get_or_default, get_or_append_lef
 use Rattle.std.proofs.lemmas.List.Elements.{recursion_from_All}
 use Rattle.std.proofs.lemmas.List.Folds.{list_all-append}
 use Rattle.std.proofs.lemmas.List.Sums.{AllPass-from_list_all, get_or-le-sum_by}
-use Rattle.pp_model.specs.declared.profile.Label.{Label}
-use Rattle.pp_model.specs.declared.profile.Mapping.{Mapping}
-use Rattle.pp_model.specs.declared.profile.Function.{Function}
-use Rattle.pp_model.specs.declared.profile.ValueType.{ValueType}
-use Rattle.pp_model.specs.declared.profile.Sample.{Sample}
-use Rattle.pp_model.specs.declared.profile.Profile.{Profile}
-use Rattle.pp_model.specs.declared.report.BaseKind.{BaseKind}
+use Rattle.pp_model.specs.Words.{Label, Mapping, Function, ValueType, Sample, Profile, BaseKind, NoRuleFails, begins_empty, zero_unless, is_text, header_texts, type_has_texts, label_has_texts, mapping_has_texts, function_has_texts, location_ids, stands_in, first_failing, IsCountable, value_in, no_sample, text_of}
 use Rattle.pp_model.specs.declared.report.BaseKind.TheVariants.{Base, DiffBase}
-use Rattle.pp_model.specs.Rules.{NoRuleFails, begins_empty, zero_unless, is_text, header_texts, type_has_texts, label_has_texts, mapping_has_texts, function_has_texts, location_ids, stands_in, first_failing}
 use Rattle.pp_model.proofs.RuleLemmas.{passes}
-use Rattle.pp_model.specs.Sizes.{IsCountable, value_in}
-use Rattle.pp_model.specs.Values.{no_sample}
 use Rattle.pp_merge.specs.Scale.{negated, negated_sample, negated_nearest, nearest_negative, labelled_sample, base_label, base_texts}
 use Rattle.std.specs.Cmp.Lexicographic.{pointwise}
 use Rattle.pp_base.proofs.Lists.{all_by, map_agree}
-use Rattle.pp_model.specs.Lookup.{text_of}
 use Rattle.pp_model.proofs.FirstText.{no_fault, begins_then}
 use Rattle.pp_merge.specs.declared.refusal.What.TheVariants.{SampleTypes, PeriodType}
 use Rattle.pp_share.specs.Header.{type_text}

@@ -4,9 +4,7 @@ use Rattle.std.specs.Prelude.{ℤ, pos, nat_lt, nat_abs, ◌==◌, if◌then◌e
 use Rattle.std.specs.List.{AllByRecursion, fold}
 use Rattle.std.proofs.lemmas.Bool.{lt-ltb, le-ltb}
 use Rattle.std.proofs.lemmas.List.{set-get_or}
-use Rattle.pp_model.specs.declared.profile.Sample.{Sample}
-use Rattle.pp_model.specs.declared.profile.Profile.{Profile}
-use Rattle.pp_model.specs.Sizes.{value_in, absolute_sum}
+use Rattle.pp_model.specs.Words.{Sample, Profile, value_in, absolute_sum, NoRuleFails}
 use Rattle.pp_merge.specs.Scale.{scaled, scaled_value, scaled_sample, normalized_value, normalized_values, normalized_sample, normalized, column_normalized}
 use Rattle.std.specs.Prelude.{None, Some}
 use Rattle.std.specs.Cmp.Lexicographic.{as_long}
@@ -15,7 +13,6 @@ use Rattle.std.proofs.lemmas.List.{length-map}
 use Rattle.std.proofs.lemmas.List.Elements.{recursion_from_All}
 use Rattle.std.proofs.lemmas.Option.{none-some}
 use Rattle.std.proofs.lemmas.Simd.{map-map}
-use Rattle.pp_model.specs.Rules.{NoRuleFails}
 use Rattle.pp_model.proofs.RuleLemmas.{passes}
 use Rattle.pp_merge.specs.declared.refusal.What.TheVariants.{SampleTypes, PeriodType}
 use Rattle.pp_share.specs.Header.{type_text}

@@ -6,7 +6,7 @@ use Rattle.std.specs.Cmp.{nat_eq_equiv}
 use Rattle.std.specs.Cmp.Lexicographic.{lists_equiv}
 use Rattle.std.proofs.lemmas.Slice.Eq.{bytes_eq-Decides}
 use Rattle.pp_share.specs.Described.{FunctionText, function_text}
-use Rattle.pp_model.specs.Lookup.{text_of}
+use Rattle.pp_model.specs.Words.{text_of}
 use Rattle.pp_share.specs.Written.{Contents, written, texts, walked_texts, index_of, written_function}
 use Rattle.pp_model.proofs.FirstSightLemmas.{IsSeen, all_seen}
 use Rattle.pp_share.proofs.Deciding.{place_gets}

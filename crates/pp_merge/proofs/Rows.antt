@@ -1,7 +1,7 @@
 -- The worked row: two files with one mapping each, of the same file, at other addresses.
 use Rattle.std.proofs.Common.{◌≡◌, ℕ, ◌+◌, ℤ, pos, false, [], ◌∷◌, refl}
 use Rattle.std.specs.Prelude.{codes}
-use Rattle.pp_model.specs.declared.profile.Profile.{Profile}
+use Rattle.pp_model.specs.Words.{Profile}
 use Rattle.pp_merge.specs.Merge.{merged}
 
 -- one sample of one location, in a mapping from `start` on

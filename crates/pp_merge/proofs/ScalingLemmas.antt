@@ -5,10 +5,7 @@ use Rattle.std.proofs.Math.Nat.{le-div_iff_mul-le, div-mul-le_self, mul-le-mul_r
 use Rattle.std.proofs.lemmas.List.{get_or_default}
 use Rattle.std.proofs.lemmas.List.Sums.{get_or-le-sum_by}
 use Rattle.std.proofs.lemmas.Option.{slice_get-get_or}
-use Rattle.pp_model.specs.declared.profile.Sample.{Sample}
-use Rattle.pp_model.specs.declared.profile.Profile.{Profile}
-use Rattle.pp_model.specs.Sizes.{value_in, absolute_sum}
-use Rattle.pp_model.specs.Values.{no_sample, with_column, with_value}
+use Rattle.pp_model.specs.Words.{Sample, Profile, value_in, absolute_sum, no_sample, with_column, with_value}
 use Rattle.pp_merge.specs.Scale.{scaled_value, scaled_sample}
 use Rattle.pp_share.proofs.ChangeLemmas.{changed_front, length-changed_front, front_kept, change_next}
 

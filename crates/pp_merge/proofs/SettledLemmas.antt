@@ -13,11 +13,7 @@ use Rattle.std.proofs.lemmas.Map.Made.{IsDistinct-keys_filter}
 use Rattle.std.proofs.lemmas.Option.{none-some, same_Some}
 use Rattle.std.proofs.lemmas.Slice.Eq.{bytes_eq-Decides}
 use Rattle.pp_base.proofs.Lists.{all_by}
-use Rattle.pp_model.specs.declared.profile.Mapping.{Mapping}
-use Rattle.pp_model.specs.declared.profile.Location.{Location}
-use Rattle.pp_model.specs.declared.profile.Profile.{Profile}
-use Rattle.pp_model.specs.Lookup.{text_of, location_with}
-use Rattle.pp_model.specs.FirstSight.{distinct}
+use Rattle.pp_model.specs.Words.{Mapping, Location, Profile, text_of, location_with, distinct}
 use Rattle.pp_share.specs.Described.{MappingText, LocationText, SampleText, function_found, mapping_text, mapping_found, location_text, location_found, sample_text, samples_found, less, nowhere}
 use Rattle.pp_share.specs.Alike.{same_mapping, equal_mapping, same_location, same_sample, first_alike}
 use Rattle.pp_share.specs.Header.{type_text}

@@ -4,7 +4,7 @@ use Rattle.std.specs.List.{list_any}
 use Rattle.std.specs.Cmp.{IsEquivalence}
 use Rattle.std.proofs.lemmas.List.{get_or-map}
 use Rattle.std.proofs.lemmas.List.Elements.{All-from_recursion}
-use Rattle.pp_model.specs.FirstSight.{distinct, place_of, numbers}
+use Rattle.pp_model.specs.Words.{distinct, place_of, numbers}
 use Rattle.pp_model.proofs.FirstSightLemmas.{IsSeen, all_seen}
 use Rattle.std.proofs.Math.Dec.{eqb-suc-suc}
 use Rattle.std.proofs.lemmas.Bool.{ne_eqb}

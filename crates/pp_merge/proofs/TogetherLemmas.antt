@@ -4,9 +4,7 @@ use Rattle.std.specs.Prelude.{None, ℤ, pos, nat_abs, nat_lt}
 use Rattle.std.specs.List.{sum_by}
 use Rattle.std.proofs.lemmas.Bool.{ltb-true, false_from_ne_true}
 use Rattle.std.proofs.lemmas.List.Sums.{sum_by-cons, sum_by-le-sum_by}
-use Rattle.pp_model.specs.declared.profile.Sample.{Sample}
-use Rattle.pp_model.specs.declared.profile.Profile.{Profile}
-use Rattle.pp_model.specs.Sizes.{absolute_sum, value_in}
+use Rattle.pp_model.specs.Words.{Sample, Profile, absolute_sum, value_in}
 use Rattle.pp_merge.specs.Merge.{too_large}
 use Rattle.pp_share.specs.Hashes.{sum_together}
 use Rattle.pp_merge.specs.Together.{sum_of_all}

@@ -9,13 +9,8 @@ use Rattle.std.proofs.lemmas.List.{length-map, get_or-map}
 use Rattle.std.proofs.lemmas.Map.Keys.{IsDistinct-head, IsDistinct-tail}
 use Rattle.std.proofs.lemmas.Slice.Eq.{bytes_eq-Decides}
 use Rattle.pp_base.proofs.Lists.{all_by}
-use Rattle.pp_model.specs.declared.profile.Mapping.{Mapping}
-use Rattle.pp_model.specs.declared.profile.Location.{Location}
-use Rattle.pp_model.specs.declared.profile.Function.{Function}
-use Rattle.pp_model.specs.Rules.{AreNumbered}
-use Rattle.pp_model.specs.Lookup.{text_of}
+use Rattle.pp_model.specs.Words.{Mapping, Location, Function, AreNumbered, text_of, distinct, place_of, seen_after}
 use Rattle.pp_model.proofs.CompactLemmas.{find_numbered, find_by_place}
-use Rattle.pp_model.specs.FirstSight.{distinct, place_of, seen_after}
 use Rattle.pp_share.specs.Described.{FunctionText, MappingText, LineText, LocationText, LabelText, function_text, mapping_text, function_found, mapping_found, line_text, label_text, less, plus, start_of, location_text, location_found, nowhere, sample_text, samples_found}
 use Rattle.pp_share.specs.Alike.{same_function, same_mapping, equal_mapping, same_location, same_sample, first_alike}
 use Rattle.pp_share.specs.Header.{TypeText, type_text, header_of, first_nonempty}

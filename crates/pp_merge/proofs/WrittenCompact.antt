@@ -7,12 +7,8 @@ use Rattle.std.specs.Bool.{Decides}
 use Rattle.std.specs.List.{flat_map, filter_map}
 use Rattle.std.specs.Option.{option_to_list}
 use Rattle.std.specs.Str.{bytes_eq}
-use Rattle.pp_model.specs.Rules.{IsCompact, AreNumbered}
-use Rattle.pp_model.specs.FirstSight.{distinct, place_of}
+use Rattle.pp_model.specs.Words.{IsCompact, AreNumbered, distinct, place_of, Mapping, Location, Function}
 use Rattle.pp_share.specs.Alike.{same_function, equal_mapping, same_location}
-use Rattle.pp_model.specs.declared.profile.Mapping.{Mapping}
-use Rattle.pp_model.specs.declared.profile.Location.{Location}
-use Rattle.pp_model.specs.declared.profile.Function.{Function}
 use Rattle.pp_share.specs.Described.{FunctionText, MappingText, LocationText, nowhere}
 use Rattle.pp_share.specs.Written.{Contents, written, locations, walked_texts, written_mapping, written_function, written_location}
 use Rattle.pp_model.proofs.FirstSightLemmas.{distinct_apart}

@@ -4,10 +4,7 @@ use Rattle.std.specs.Prelude.{Option, None, Some, ◌==◌}
 use Rattle.std.specs.List.{AllByRecursion}
 use Rattle.std.specs.Option.{option_map}
 use Rattle.pp_base.proofs.Lists.{all_by}
-use Rattle.pp_model.specs.declared.profile.Mapping.{Mapping}
-use Rattle.pp_model.specs.declared.profile.Location.{Location}
-use Rattle.pp_model.specs.declared.profile.Profile.{Profile}
-use Rattle.pp_model.specs.Lookup.{mapping_with, location_with}
+use Rattle.pp_model.specs.Words.{Mapping, Location, Profile, mapping_with, location_with}
 use Rattle.pp_share.specs.Described.{MappingText, LocationText, mapping_text, function_found, mapping_found, line_text, less, plus, start_of, nowhere}
 use Rattle.pp_share.specs.Alike.{equal_mapping, same_location, first_alike}
 use Rattle.pp_merge.specs.Merge.{contents, merged, all_mappings}

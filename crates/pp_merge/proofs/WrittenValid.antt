@@ -8,12 +8,7 @@ use Rattle.std.proofs.lemmas.Bool.{lt-ltb, eq-eqb, cases_eq, and_from, or_right}
 use Rattle.std.proofs.lemmas.List.{length-map}
 use Rattle.std.proofs.lemmas.Slice.Eq.{bytes_eq-Decides}
 use Rattle.pp_base.proofs.Lists.{all_by}
-use Rattle.pp_model.specs.declared.profile.Mapping.{Mapping}
-use Rattle.pp_model.specs.declared.profile.Location.{Location}
-use Rattle.pp_model.specs.declared.profile.Function.{Function}
-use Rattle.pp_model.specs.declared.profile.Sample.{Sample}
-use Rattle.pp_model.specs.Rules.{NoRuleFails, begins_empty, zero_unless, is_text, header_texts, type_has_texts, label_has_texts, mapping_has_texts, function_has_texts, mapping_ids, function_ids, location_ids, is_zero_or_in, stands_in, location_refers}
-use Rattle.pp_model.specs.FirstSight.{place_of, seen_after}
+use Rattle.pp_model.specs.Words.{Mapping, Location, Function, Sample, NoRuleFails, begins_empty, zero_unless, is_text, header_texts, type_has_texts, label_has_texts, mapping_has_texts, function_has_texts, mapping_ids, function_ids, location_ids, is_zero_or_in, stands_in, location_refers, place_of, seen_after}
 use Rattle.pp_share.specs.Described.{FunctionText, MappingText, LocationText, LabelText, SampleText}
 use Rattle.pp_share.specs.Alike.{same_function, equal_mapping, same_location}
 use Rattle.pp_share.specs.Header.{TypeText}

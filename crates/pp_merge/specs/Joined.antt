@@ -1,9 +1,7 @@
 -- Profiles one behind the other, as one whose references are by place.
 use Rattle.std.specs.Prelude.{◌+◌, ◌<◌, ◌^◌, ℤ, List, [], ◌∷◌, ◌++◌, length, if◌then◌else◌}
 use Rattle.std.specs.Str.{bytes_eq}
-use Rattle.pp_model.specs.declared.profile.Profile.{Profile}
-use Rattle.pp_model.specs.Lookup.{text_of, text_number}
-use Rattle.pp_model.specs.Rules.{AreNumbered, mapping_ids, function_ids, location_ids}
+use Rattle.pp_model.specs.Words.{Profile, text_of, text_number, AreNumbered, mapping_ids, function_ids, location_ids}
 use Rattle.pp_merge.specs.declared.join.Sizes.{Sizes}
 use Rattle.pp_share.specs.Behind.{behind_id}
 use Rattle.pp_share.specs.Ids.{place_id, index_of_id}

@@ -1,7 +1,7 @@
 -- How long the tables of a profile are beside those of other profiles.
 use Rattle.std.specs.Prelude.{◌≤◌, List, length}
 use Rattle.std.specs.List.{sum_by}
-use Rattle.pp_model.specs.declared.profile.Profile.{Profile}
+use Rattle.pp_model.specs.Words.{Profile}
 
 -- no table of the profile is longer than that table is over all of the others
 pub record IsNoLonger (p : Profile) (list : List Profile) : Type 0 where

@@ -4,8 +4,7 @@ use Rattle.std.specs.Option.{option_or, option_map}
 use Rattle.std.specs.List.{flat_map, sum_by, range_with_len}
 use Rattle.std.specs.Str.{bytes_eq}
 use Rattle.std.specs.Cmp.Lexicographic.{pointwise}
-use Rattle.pp_model.specs.declared.profile.Profile.{Profile}
-use Rattle.pp_model.specs.Sizes.{absolute_sum}
+use Rattle.pp_model.specs.Words.{Profile, absolute_sum}
 use Rattle.pp_merge.specs.declared.refusal.What.{What}
 use Rattle.pp_merge.specs.declared.refusal.What.TheVariants.{SampleTypes, PeriodType}
 use Rattle.pp_merge.specs.declared.refusal.MergeRefusal.{MergeRefusal}

@@ -2,13 +2,8 @@
 use Rattle.std.specs.Prelude.{ℕ, Bool, ◌+◌, ◌==◌, ℤ, pos, ◌*ℤ◌, int_div, nat_lt, ◌&&◌, List, [], ◌∷◌, ◌++◌, map, length, position, codes, Option, if◌then◌else◌, neg_ℤ, ◌-ℤ◌}
 use Rattle.std.specs.Int.{saturate_to_bits}
 use Rattle.std.specs.List.{range_with_len}
-use Rattle.pp_model.specs.declared.profile.Label.{Label}
-use Rattle.pp_model.specs.declared.profile.Sample.{Sample}
-use Rattle.pp_model.specs.declared.profile.Profile.{Profile}
-use Rattle.pp_model.specs.declared.report.BaseKind.{BaseKind}
+use Rattle.pp_model.specs.Words.{Label, Sample, Profile, BaseKind, absolute_sum, value_in, with_column}
 use Rattle.pp_model.specs.declared.report.BaseKind.TheVariants.{Base, DiffBase}
-use Rattle.pp_model.specs.Sizes.{absolute_sum, value_in}
-use Rattle.pp_model.specs.Values.{with_column}
 
 -- the value times num divided by den, truncated towards zero
 abbrev pub scaled_value : ℕ → ℕ → ℤ → ℤ

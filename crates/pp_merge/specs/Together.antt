@@ -1,7 +1,7 @@
 -- All values of profiles, added up together whatever their columns.
 use Rattle.std.specs.Prelude.{ℕ, List}
 use Rattle.std.specs.List.{sum_by}
-use Rattle.pp_model.specs.declared.profile.Profile.{Profile}
+use Rattle.pp_model.specs.Words.{Profile}
 use Rattle.pp_share.specs.Hashes.{sum_together}
 
 -- the sum of the absolute values of all columns over all samples of the profiles

@@ -1,8 +1,6 @@
 -- Sums of a column over samples, over profiles, and over items with a key and values.
 use Rattle.std.specs.Prelude.{ℕ, ℤ, pos, ◌+ℤ◌, Bool, List, [], ◌∷◌, slice_index_or, if◌then◌else◌}
-use Rattle.pp_model.specs.declared.profile.Sample.{Sample}
-use Rattle.pp_model.specs.declared.profile.Profile.{Profile}
-use Rattle.pp_model.specs.Sizes.{value_in}
+use Rattle.pp_model.specs.Words.{Sample, Profile, value_in}
 
 -- the sum of the column's values, with their signs
 abbrev pub value_sum : ℕ → List Sample → ℤ

@@ -1,6 +1,6 @@
 //! A profile that is merged alone.
 ghost use Rattle.std.specs.Prelude.{◌≡◌, [], IfOk};
-ghost use Rattle.pp_model.specs.Sizes.{IsCountable};
+ghost use Rattle.pp_model.specs.Words.{IsCountable};
 ghost use Rattle.pp_merge.specs.Merge.{merged};
 
 use crate::merging::{merge, merge_plain_on};

@@ -2,7 +2,7 @@
 ghost use Rattle.std.specs.Prelude.{◌≡◌, ℕ, ◌+◌, ◌<◌, ◌^◌, ◌++◌, None, length, map, IfOk, OnOk};
 ghost use Rattle.std.specs.Bool.{OnTrue};
 ghost use Rattle.std.specs.List.{AllByRecursion};
-ghost use Rattle.pp_model.specs.Rules.{NoRuleFails, AreNumbered, first_repeated};
+ghost use Rattle.pp_model.specs.Words.{NoRuleFails, AreNumbered, first_repeated};
 ghost use Rattle.pp_share.specs.Behind.{behind_id};
 ghost use Rattle.pp_share.specs.Ids.{known_id, place_id};
 ghost use Rattle.pp_share.specs.Renumbered.{new_ids};

@@ -1,11 +1,9 @@
 //! What holds of any profile that is written. These functions do nothing: their clauses are the laws.
-ghost use Rattle.pp_model.specs.Rules.{IsCompact, NoRuleFails};
+ghost use Rattle.pp_model.specs.Words.{IsCompact, NoRuleFails, absolute_sum, Profile};
 ghost use Rattle.std.specs.Prelude.{◌≡◌, ◌<◌, ◌≤◌, ◌^◌, ℕ, ℤ, List, [], ◌∷◌, length};
 ghost use Rattle.pp_merge.specs.Lengths.{IsNoLonger};
 ghost use Rattle.pp_merge.specs.Totals.{value_sum, value_sums};
 ghost use Rattle.std.specs.List.{AllByRecursion, sum_by};
-ghost use Rattle.pp_model.specs.Sizes.{absolute_sum};
-ghost use Rattle.pp_model.specs.declared.profile.Profile.{Profile};
 ghost use Rattle.pp_share.specs.Written.{Contents, written, FitsTypes};
 ghost use Rattle.pp_merge.specs.Merge.{contents, merged, all_mappings};
 ghost use Rattle.pp_merge.specs.Settled.{IsSettled};

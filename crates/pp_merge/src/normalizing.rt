@@ -1,6 +1,6 @@
 //! A profile brought to the size of its base.
 ghost use Rattle.std.specs.Prelude.{◌≡◌, ◌<◌, ◌≤◌, ◌^◌, ◌-◌, None, Some, length, IfOk, IfErr, IfSome, OnOk, OnErr};
-ghost use Rattle.pp_model.specs.Sizes.{absolute_sum, IsCountable};
+ghost use Rattle.pp_model.specs.Words.{absolute_sum, IsCountable};
 ghost use Rattle.pp_merge.specs.Merge.{difference};
 ghost use Rattle.pp_merge.specs.Scale.{normalized, column_normalized, nothing_to_scale, has_nothing_to_scale};
 

@@ -1,6 +1,6 @@
 //! Values of one column, multiplied and divided.
 ghost use Rattle.std.specs.Prelude.{◌≡◌, ◌<◌, ◌≤◌, ◌*◌, ◌/◌, ◌^◌, ◌-◌, ◌*ℤ◌, pos, int_div, length, nat_abs};
-ghost use Rattle.pp_model.specs.Sizes.{absolute_sum};
+ghost use Rattle.pp_model.specs.Words.{absolute_sum};
 ghost use Rattle.pp_merge.specs.Scale.{scaled, scaled_value};
 
 use pp_model::{Compact, value_in};

@@ -1,7 +1,6 @@
 //! A base taken off a profile.
 ghost use Rattle.std.specs.Prelude.{◌≡◌, ◌+◌, ◌<◌, ◌^◌, None, [], ◌∷◌, ◌++◌, length, map, IfOk, OnOk};
-ghost use Rattle.pp_model.specs.Rules.{NoRuleFails};
-ghost use Rattle.pp_model.specs.Sizes.{IsCountable};
+ghost use Rattle.pp_model.specs.Words.{NoRuleFails, IsCountable};
 ghost use Rattle.pp_merge.specs.Merge.{Merges, difference};
 ghost use Rattle.pp_merge.specs.Scale.{base_label, base_texts, labelled_sample, negated};
 

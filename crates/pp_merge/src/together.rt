@@ -1,6 +1,6 @@
 //! All values of several profiles.
 ghost use Rattle.std.specs.Prelude.{◌≡◌, ◌+◌, IfOk};
-ghost use Rattle.pp_base.specs.Capped.{capped};
+ghost use Rattle.pp_base.specs.Words.{capped};
 ghost use Rattle.pp_merge.specs.Together.{sum_of_all};
 
 use pp_base::Memory;

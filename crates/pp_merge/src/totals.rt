@@ -1,7 +1,7 @@
 //! What the values of several profiles add up to.
 ghost use Rattle.std.specs.Prelude.{◌≡◌, ◌+◌, ◌≤◌, ◌<◌, ◌^◌, ◌-◌, ◌∷◌, nat_lt, nat_abs, IfSome};
 ghost use Rattle.std.specs.List.{sum_by};
-ghost use Rattle.pp_model.specs.Sizes.{absolute_sum, value_in};
+ghost use Rattle.pp_model.specs.Words.{absolute_sum, value_in};
 ghost use Rattle.pp_merge.specs.Merge.{too_large, if_small};
 
 use pp_model::{Sample, Valid, value_in};

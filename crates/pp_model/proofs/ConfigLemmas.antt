@@ -3,7 +3,7 @@ use Rattle.std.proofs.Common.{◌≡◌, ◌<◌, ◌≤◌, ◌^◌}
 use Rattle.std.specs.Prelude.{◌≤ℤ◌, negsuc}
 use Rattle.std.proofs.Props.{props}
 use mathlib.Core.HLevel.{is_prop→PathP}
-use Rattle.pp_base.specs.declared.fraction.Fraction.{Fraction}
+use Rattle.pp_base.specs.Words.{Fraction}
 use Rattle.pp_model.specs.declared.presentation.Presentation.{Presentation}
 use Rattle.pp_model.specs.declared.environment.Environment.{Environment}
 

@@ -1,7 +1,7 @@
 -- Variables with another number. A number that the variable can't have leaves them as they are.
 use Rattle.std.specs.Prelude.{◌≡◌, ℕ, ◌^◌, Bool, true, false, ◌&&◌, nat_le, nat_lt, ℤ, pos, negsuc, refl}
 use Rattle.std.proofs.lemmas.Bool.{leb-true, ltb-true, and_parts}
-use Rattle.pp_base.specs.declared.fraction.Fraction.{Fraction}
+use Rattle.pp_base.specs.Words.{Fraction}
 use Rattle.pp_model.specs.declared.presentation.Presentation.{Presentation}
 use Rattle.pp_model.specs.declared.environment.Environment.{Environment}
 

@@ -11,3 +11,4 @@ pub mod ReportFacts
 pub mod Rules
 pub mod Sizes
 pub mod Values
+pub mod Words

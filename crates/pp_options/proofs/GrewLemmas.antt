@@ -2,7 +2,7 @@
 use Rattle.std.proofs.Common.{◌≡◌, ℕ, ◌+◌, ◌≤◌, List, ◌++◌, take, drop, length, sym, ap, ◌∙◌, arith}
 use Rattle.std.proofs.lemmas.List.{take-append-drop, take-append-le, length-append}
 use Rattle.std.proofs.Math.Seq.{take-append_seam}
-use Rattle.pp_base.specs.Grew.{Grew}
+use Rattle.pp_base.specs.Words.{Grew}
 
 -- what grew from more grew from less
 pub grew_from_less : (old more new : List ℕ) → Grew (old ++ more) new → Grew old new

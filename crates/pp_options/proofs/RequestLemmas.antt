@@ -8,7 +8,7 @@ use Rattle.std.proofs.lemmas.List.{append-nil}
 use Rattle.std.proofs.lemmas.List.Elements.{filter_map-append}
 use Rattle.std.proofs.lemmas.List.Sums.{fold-append}
 use Rattle.pp_base.proofs.Lists.{last_push}
-use Rattle.pp_model.specs.Defaults.{defaults}
+use Rattle.pp_model.specs.Words.{defaults}
 use Rattle.pp_options.specs.declared.item.Item.{Item}
 use Rattle.pp_options.specs.declared.item.Item.TheVariants.{Source, Base, Gen, Normalize, Format, Set}
 use Rattle.pp_options.specs.Settings.{assigned}

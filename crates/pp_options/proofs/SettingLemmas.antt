@@ -5,11 +5,8 @@ use Rattle.std.proofs.Props.{props}
 use Rattle.std.proofs.lemmas.Bool.{le-leb, leb-true}
 use mathlib.Core.HLevel.{is_prop→PathP}
 use mathlib.Core.Bool.{Bool-set}
-use Rattle.pp_base.specs.declared.fraction.Fraction.{Fraction}
-use Rattle.pp_model.specs.declared.config.Config.{Config}
-use Rattle.pp_model.specs.declared.presentation.Presentation.{Presentation}
-use Rattle.pp_model.specs.declared.environment.Environment.{Environment}
-use Rattle.pp_model.specs.Changes.{where_true, with_nodecount, with_divide_by, with_workers}
+use Rattle.pp_base.specs.Words.{Fraction}
+use Rattle.pp_model.specs.Words.{Config, Presentation, Environment, where_true, with_nodecount, with_divide_by, with_workers}
 use Rattle.pp_model.proofs.ConfigLemmas.{same_fraction, same_environment}
 use Rattle.pp_options.specs.Settings.{fraction}
 

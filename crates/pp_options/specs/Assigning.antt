@@ -1,6 +1,6 @@
 -- Assignments: which configuration one makes, or why it makes none.
 use Rattle.std.specs.Prelude.{◌≡◌, ℕ, ⊤, List, Option, Some, None, Result, Ok, Err}
-use Rattle.pp_model.specs.declared.config.Config.{Config}
+use Rattle.pp_model.specs.Words.{Config}
 use Rattle.pp_options.specs.declared.variable.Variable.{Variable}
 use Rattle.pp_options.specs.declared.setting.Setting.{Setting}
 use Rattle.pp_options.specs.declared.assigning.SetRefusal.{SetRefusal}

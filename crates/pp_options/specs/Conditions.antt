@@ -1,8 +1,7 @@
 -- What holds of each plan.
 use Rattle.std.specs.Prelude.{ℕ, Bool, true, ◌&&◌, List, length, Option, Some, None, nat_le, nat_lt}
 use Rattle.std.specs.Option.{option_map_or}
-use Rattle.pp_model.specs.declared.report.Report.{Report}
-use Rattle.pp_model.specs.ReportFacts.{own_pattern}
+use Rattle.pp_model.specs.Words.{Report, own_pattern}
 use Rattle.pp_options.specs.declared.origin.Origin.{Origin}
 use Rattle.pp_options.specs.declared.origin.Origin.TheVariants.{Path, Gen}
 

@@ -1,6 +1,6 @@
 -- The formats of reports.
 use Rattle.std.specs.Prelude.{ℕ, List, Option}
-use Rattle.pp_model.specs.declared.report.Report.{Report}
+use Rattle.pp_model.specs.Words.{Report}
 use Rattle.pp_model.specs.declared.report.Report.TheVariants as reports
 use Rattle.pp_options.specs.declared.format.TheConstants.{FORMATS}
 use Rattle.pp_options.specs.declared.format.Format.{Format}

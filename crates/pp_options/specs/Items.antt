@@ -1,7 +1,7 @@
 -- What one word asks for, or an option together with the word that is its value.
 use Rattle.std.specs.Prelude.{◌≡◌, ℕ, ⊤, Bool, true, false, List, [], ◌∷◌, Option, Some, None, option_map, unwrap_or, Result, Ok, Err, codes, if◌then◌else◌}
 use Rattle.std.specs.Option.{ok_or, option_or}
-use Rattle.pp_model.specs.declared.report.Report.{Report}
+use Rattle.pp_model.specs.Words.{Report}
 use Rattle.pp_options.specs.declared.name.Choice.{Choice as ChoiceName}
 use Rattle.pp_options.specs.declared.name.Choice.TheVariants as choices
 use Rattle.pp_options.specs.declared.name.OptionName.{OptionName}

@@ -2,13 +2,10 @@
 use Rattle.std.specs.Prelude.{ℕ, ◌+◌, ◌==◌, Bool, true, false, List, [], ◌++◌, drop, decimal, codes, if◌then◌else◌}
 use Rattle.std.specs.Fmt.{signed_decimal}
 use Rattle.std.specs.List.{flat_map}
-use Rattle.pp_base.specs.declared.fraction.Fraction.{Fraction as BaseFraction}
-use Rattle.pp_model.specs.declared.presentation.Sort.{Sort as Order}
+use Rattle.pp_base.specs.Words.{Fraction as BaseFraction}
+use Rattle.pp_model.specs.Words.{Sort as Order, Grain, Config, Presentation}
 use Rattle.pp_model.specs.declared.presentation.Sort.TheVariants.{Flat, Cum}
-use Rattle.pp_model.specs.declared.grouping.Grain.{Grain}
 use Rattle.pp_model.specs.declared.grouping.Grain.TheVariants.{Functions, FileFunctions, Files, Lines, Addresses}
-use Rattle.pp_model.specs.declared.config.Config.{Config}
-use Rattle.pp_model.specs.declared.presentation.Presentation.{Presentation}
 use Rattle.pp_options.specs.declared.table.Row.TheVariants as rows
 use Rattle.pp_options.specs.declared.variable.TheConstants.{VARIABLES}
 use Rattle.pp_options.specs.declared.variable.FlagVariable.{FlagVariable}

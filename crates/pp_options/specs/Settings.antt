@@ -1,11 +1,9 @@
 -- Variables with their values, and how a configuration is changed by them.
 use Rattle.std.specs.Prelude.{ℕ, ◌^◌, negsuc, int_le, Bool, true, false, ◌&&◌, ◌||◌, List, Option, Some, None, option_map, nat_le, nat_lt, bytes_eq, codes, if◌then◌else◌}
 use Rattle.std.proofs.Common.{lit≤}
-use Rattle.pp_base.specs.declared.fraction.Fraction.{Fraction as BaseFraction}
-use Rattle.pp_model.specs.declared.config.Config.{Config}
-use Rattle.pp_model.specs.declared.presentation.Presentation.{Presentation}
-use Rattle.pp_model.specs.Changes.{with_nodecount, with_divide_by, with_workers, fraction_or}
-use Rattle.pp_units.specs.Fractions.{fraction_of}
+use Rattle.pp_base.specs.Words.{Fraction as BaseFraction}
+use Rattle.pp_model.specs.Words.{Config, Presentation, with_nodecount, with_divide_by, with_workers, fraction_or}
+use Rattle.pp_units.specs.Words.{fraction_of}
 use Rattle.pp_options.specs.declared.variable.FlagVariable.{FlagVariable}
 use Rattle.pp_options.specs.declared.variable.FlagVariable.TheVariants as flags
 use Rattle.pp_options.specs.declared.variable.FractionVariable.{FractionVariable}

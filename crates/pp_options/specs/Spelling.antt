@@ -3,7 +3,7 @@ use Rattle.std.specs.Prelude.{ℕ, Bool, false, not, ◌&&◌, ◌==◌, List, [
 use Rattle.std.specs.Option.{option_map_or}
 use Rattle.std.specs.List.{list_any, before_first, after_first}
 use Rattle.pp_options.specs.Names.{option_named, needs_value}
-use Rattle.pp_base.specs.Marks.{is_equals}
+use Rattle.pp_base.specs.Words.{is_equals}
 
 -- the text begins with a dash
 abbrev pub has_dash : List ℕ → Bool

@@ -3,11 +3,8 @@ use Rattle.std.specs.Prelude.{ℕ, ◌+◌, ◌&&◌, Bool, true, false, not, Li
 use Rattle.std.specs.Option.{option_or, option_and_then}
 use Rattle.std.specs.Result.{result_ok}
 use Rattle.std.specs.List.{filter_map, last_or}
-use Rattle.pp_model.specs.declared.config.Config.{Config}
-use Rattle.pp_model.specs.declared.report.Report.{Report}
-use Rattle.pp_model.specs.declared.report.BaseKind.{BaseKind}
+use Rattle.pp_model.specs.Words.{Config, Report, BaseKind, defaults}
 use Rattle.pp_model.specs.declared.report.BaseKind.TheVariants as bases
-use Rattle.pp_model.specs.Defaults.{defaults}
 use Rattle.pp_options.specs.declared.setting.Setting.{Setting}
 use Rattle.pp_options.specs.declared.origin.Origin.{Origin}
 use Rattle.pp_options.specs.declared.origin.Origin.TheVariants as origin

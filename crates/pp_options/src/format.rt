@@ -1,6 +1,6 @@
 //! The formats of reports: their words, and what the help tells of them.
 ghost use Rattle.std.specs.Prelude.{◌≡◌, None, Some};
-ghost use Rattle.pp_model.specs.ReportFacts.{own_pattern};
+ghost use Rattle.pp_model.specs.Words.{own_pattern};
 ghost use Rattle.pp_options.specs.Formats.{format_named, flag_report, pattern_report};
 
 use crate::table::{OptionRow, Row, option_in};

@@ -1,7 +1,7 @@
 //! What the program tells of itself.
 ghost use Rattle.std.specs.Prelude.{◌≡◌, ◌++◌, map, OnOk, OnErr};
 ghost use Rattle.std.specs.List.{flat_map};
-ghost use Rattle.pp_base.specs.Grew.{Grew};
+ghost use Rattle.pp_base.specs.Words.{Grew};
 ghost use Rattle.pp_options.specs.Tables.{row_of};
 ghost use Rattle.pp_options.specs.Help.{topic_asked, topic_text, help_row, help_options, help_shell};
 ghost use Rattle.pp_options.specs.declared.help.Topic.TheVariants as topics;

@@ -2,7 +2,7 @@
 ghost use Rattle.std.specs.Prelude.{◌≡◌, ◌++◌, ◌<◌, map, OnOk, OnErr, decimal};
 ghost use Rattle.std.specs.Fmt.{signed_decimal};
 ghost use Rattle.std.specs.List.{flat_map};
-ghost use Rattle.pp_base.specs.Grew.{Grew};
+ghost use Rattle.pp_base.specs.Words.{Grew};
 ghost use Rattle.pp_options.specs.Tables.{row_of};
 ghost use Rattle.pp_options.specs.Listing.{options_text, option_line, variable_text, sort_text, grain_text, truth_text, flag_in, fraction_in, text_in, fraction_text, decimals_text, without_zeros};
 

@@ -1,6 +1,6 @@
 //! The tables of names, the list of the defaults and the shell's help in plain texts.
 ghost use Rattle.std.specs.Prelude.{◌≡◌};
-ghost use Rattle.pp_model.specs.Defaults.{defaults};
+ghost use Rattle.pp_model.specs.Words.{defaults};
 ghost use Rattle.pp_options.specs.declared.format.TheConstants.{FORMATS};
 ghost use Rattle.pp_options.specs.declared.help.TheConstants.{SHELL_HELP, TOPICS};
 ghost use Rattle.pp_options.specs.declared.name.TheConstants.{SOURCES};

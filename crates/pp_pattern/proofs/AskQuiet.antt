@@ -1,14 +1,10 @@
 -- What asking for patterns does: it passes each test that asking passes.
 use Rattle.std.proofs.Common.{◌≡◌, ℕ, Bool, true, List, [], ◌∷◌, ◌++◌, Option, Some, None}
 use Rattle.std.specs.Prelude.{Result, Ok, Err, unwrap_or}
-use Rattle.pp_desk.specs.Asking.{Asking, ◌>>=◌, go_on}
-use Rattle.pp_desk.specs.Script.{Step, Ask}
+use Rattle.pp_desk.specs.Words.{Asking, go_on, Step, Ask}
+use Rattle.pp_desk.specs.Asking.{◌>>=◌}
 use Rattle.pp_desk.proofs.Quiet.{Only, only_then}
-use Rattle.pp_model.specs.declared.profile.Profile.{Profile}
-use Rattle.pp_model.specs.declared.verdicts.Slot.{Slot}
-use Rattle.pp_model.specs.declared.verdicts.Tag.{Tag}
-use Rattle.pp_model.specs.declared.filtering.Filtering.{Filtering}
-use Rattle.pp_model.specs.Lookup.{text_of}
+use Rattle.pp_model.specs.Words.{Profile, Slot, Tag, Filtering, text_of}
 use Rattle.pp_pattern.specs.Load.{judge_load, whole_name}
 use Rattle.pp_pattern.specs.Patterns.{judge_pattern, judge_option, judge_part, judge_parts}
 use Rattle.pp_pattern.specs.Report.{judge_frames, judge_filter, judge_tags, judge_names, judge_with, judge, Finds}

@@ -2,13 +2,9 @@
 use Rattle.std.proofs.Common.{◌≡◌, ℕ, Bool, true, false, cond, List, map, refl, sym, ap, ◌∙◌}
 use Rattle.std.specs.Prelude.{Option, None, Some, Ok, Err}
 use Rattle.std.proofs.lemmas.Option.{none-some, same_Some}
-use Rattle.pp_desk.specs.declared.stop.Stop.{Stop}
+use Rattle.pp_desk.specs.Words.{Stop, Script, Give, Make, Ask, ask, verdicts, World, Went, Goes, Ways, parts, Asking}
 use Rattle.pp_desk.specs.Script as scripts
-use Rattle.pp_desk.specs.Script.{Script, Give, Make, Ask, ask, verdicts}
-use Rattle.pp_desk.specs.World.{World}
-use Rattle.pp_desk.specs.Went.{Went, Goes, Ways, parts}
 use Rattle.pp_desk.proofs.Going.{stops_first, goes_give, wants}
-use Rattle.pp_desk.specs.Asking.{Asking}
 use Rattle.pp_pattern.specs.Masks.{masked}
 use Rattle.pp_pattern.specs.Patterns.{judge_pattern, finder}
 use Rattle.pp_pattern.proofs.MaskLemmas.{masked_finds}

@@ -3,13 +3,7 @@ use Rattle.std.proofs.Common.{◌≡◌, ℕ, List, [], ◌∷◌, map, refl, sy
 use Rattle.std.specs.Prelude.{Option, None, Some, option_map, unwrap_or}
 use Rattle.std.proofs.lemmas.List.{length-map}
 use Rattle.std.proofs.lemmas.Simd.{map-map}
-use Rattle.pp_model.specs.declared.loaded.Loaded.{Loaded}
-use Rattle.pp_model.specs.declared.profile.Profile.{Profile}
-use Rattle.pp_model.specs.declared.verdicts.Tag.{Tag}
-use Rattle.pp_model.specs.declared.filtering.Filtering.{Filtering}
-use Rattle.pp_model.specs.Conditions.{HasOnePerText}
-use Rattle.pp_model.specs.Finders.{Finder}
-use Rattle.pp_model.specs.Judged.{judged}
+use Rattle.pp_model.specs.Words.{Loaded, Profile, Tag, Filtering, HasOnePerText, Finder, judged}
 use Rattle.pp_tags.specs.declared.tag_filter.TagFilter.{TagFilter}
 use Rattle.pp_tags.specs.TagFilters.{filter_in_force, found_by, subjects, AreTagVerdicts, HasItsTags}
 use Rattle.pp_tags.specs.TagPairs.{tag_pairs}

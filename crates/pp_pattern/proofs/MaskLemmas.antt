@@ -3,7 +3,7 @@ use Rattle.std.proofs.Common.{◌≡◌, ℕ, zero, suc, ◌+◌, ◌<◌, Bool,
 use Rattle.std.proofs.lemmas.Bool.{cond-true, cond-false}
 use Rattle.pp_pattern.specs.Masks.{masked}
 use Rattle.pp_pattern.specs.Patterns.{finder}
-use Rattle.pp_base.specs.Marks.{is_empty_text}
+use Rattle.pp_base.specs.Words.{is_empty_text}
 
 -- either way of a choice, behind a first verdict
 behind : (b v : Bool) (i : ℕ) (more here : List Bool) → more ≡ cond b (set here i false) here →

@@ -3,13 +3,11 @@ use Rattle.std.proofs.Common.{◌≡◌, ◌+◌, ◌<◌, ◌≤◌, ℕ, List,
 use Rattle.std.specs.Prelude.{Ok, Err}
 use Rattle.std.proofs.lemmas.List.{at_drop_more, at_drop_all}
 use Rattle.pp_desk.specs.declared.stop.Stop.TheVariants as stops
-use Rattle.pp_desk.specs.World.{World}
-use Rattle.pp_desk.specs.Went.{Went, IsOnWay}
+use Rattle.pp_desk.specs.Words.{World, Went, IsOnWay, Halt, settled}
 use Rattle.pp_desk.proofs.Looping.{arrives, sets_out, moves_on}
 use Rattle.pp_desk.proofs.Going.{gives, wants}
-use Rattle.pp_desk.specs.declared.halt.Halt.{Halt}
 use Rattle.pp_desk.specs.declared.halt.Halt.TheVariants as halts
-use Rattle.pp_desk.specs.Asking.{◌>>=◌, settled}
+use Rattle.pp_desk.specs.Asking.{◌>>=◌}
 use Rattle.pp_pattern.specs.Patterns.{judge_part, judge_parts}
 use Rattle.pp_desk.proofs.AskingLemmas.{asking_stops, asking_refused}
 

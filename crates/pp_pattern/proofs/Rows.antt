@@ -1,14 +1,11 @@
 -- Worked orders of asking, over plain texts that are found where they stand.
 use Rattle.std.proofs.Common.{◌≡◌, true, false, [], ◌∷◌, refl}
 use Rattle.std.specs.Prelude.{pos, codes, Option, Some, None, Err}
-use Rattle.pp_base.specs.FileMap.{FileMap}
-use Rattle.pp_base.specs.Judges.{occurs_in}
-use Rattle.pp_model.specs.declared.filtering.Filtering.{Filtering}
-use Rattle.pp_model.specs.declared.profile.Profile.{Profile}
+use Rattle.pp_base.specs.Words.{FileMap, occurs_in}
+use Rattle.pp_model.specs.Words.{Filtering, Profile, standard_filtering}
 use Rattle.pp_model.specs.declared.verdicts.Slot.TheVariants.{Hide}
-use Rattle.pp_model.specs.Defaults.{standard_filtering}
 use Rattle.pp_tags.specs.declared.tag_filter.TagFilter.{TagFilter}
-use Rattle.pp_desk.specs.Course.{course}
+use Rattle.pp_desk.specs.Words.{course}
 use Rattle.pp_desk.specs.Script as scripts
 use Rattle.pp_desk.specs.Asking.{◌>>=◌}
 use Rattle.pp_pattern.specs.Patterns.{judge_pattern, judge_option, judge_part, judge_parts}

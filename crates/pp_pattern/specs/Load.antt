@@ -1,13 +1,10 @@
 -- The two patterns that a profile has of its own.
 use Rattle.std.specs.Prelude.{ℕ, Bool, List, [], ◌∷◌, ◌++◌, codes, Option, Ok}
-use Rattle.pp_model.specs.declared.profile.Profile.{Profile}
-use Rattle.pp_model.specs.Finders.{Finder}
-use Rattle.pp_model.specs.Lookup.{text_of}
-use Rattle.pp_model.specs.Judged.{judged}
-use Rattle.pp_desk.specs.Script.{Give}
+use Rattle.pp_model.specs.Words.{Profile, Finder, text_of, judged}
+use Rattle.pp_desk.specs.Words.{Give, Asking}
 use Rattle.pp_pattern.specs.declared.load.FramesRefused.{FramesRefused}
 use Rattle.pp_pattern.specs.declared.load.FramesRefused.TheVariants.{DropFrames, KeepFrames}
-use Rattle.pp_desk.specs.Asking.{Asking, ◌>>=◌}
+use Rattle.pp_desk.specs.Asking.{◌>>=◌}
 use Rattle.pp_pattern.specs.Patterns.{judge_option, finder_in_force}
 
 -- the text as a pattern of whole names; an empty text stays empty, and is no pattern

@@ -1,9 +1,9 @@
 -- What a pattern finds of texts, and how it is asked.
 use Rattle.std.specs.Prelude.{ℕ, Bool, not, ◌&&◌, List, [], ◌∷◌, ◌++◌, map, Option, None, Some, Ok, Err, if◌then◌else◌}
-use Rattle.pp_model.specs.Finders.{Finder}
-use Rattle.pp_desk.specs.Script.{Give, Make, Ask}
-use Rattle.pp_desk.specs.Asking.{Asking, ◌>>=◌}
-use Rattle.pp_base.specs.Marks.{is_empty_text}
+use Rattle.pp_model.specs.Words.{Finder}
+use Rattle.pp_desk.specs.Words.{Give, Make, Ask, Asking}
+use Rattle.pp_desk.specs.Asking.{◌>>=◌}
+use Rattle.pp_base.specs.Words.{is_empty_text}
 
 -- what each text but the empty one is
 abbrev pub any_text : Finder

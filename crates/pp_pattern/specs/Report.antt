@@ -1,25 +1,17 @@
 -- The patterns of a report: in which order they are asked, and what their verdicts are.
 use Rattle.std.specs.Option.{option_map_or}
 use Rattle.std.specs.Prelude.{◌≡◌, ℕ, Bool, List, [], map, Option, None, Some, Ok, option_map, unwrap_or}
-use Rattle.pp_model.specs.declared.profile.Profile.{Profile}
-use Rattle.pp_model.specs.declared.verdicts.Slot.{Slot}
+use Rattle.pp_model.specs.Words.{Profile, Slot, Tag, Verdicts, Loaded, Filtering, HasVerdicts, Finder, Finders, TagFinders, HoldsFinders, judged}
 use Rattle.pp_model.specs.declared.verdicts.Slot.TheVariants.{Focus, Ignore, Hide, Show, ShowFrom, TagFocus, TagIgnore, PruneFrom, TagShow, TagHide, Own}
-use Rattle.pp_model.specs.declared.verdicts.Tag.{Tag}
-use Rattle.pp_model.specs.declared.verdicts.Verdicts.{Verdicts}
-use Rattle.pp_model.specs.declared.loaded.Loaded.{Loaded}
-use Rattle.pp_model.specs.declared.filtering.Filtering.{Filtering}
-use Rattle.pp_model.specs.Conditions.{HasVerdicts}
-use Rattle.pp_model.specs.Finders.{Finder, Finders, TagFinders, HoldsFinders}
-use Rattle.pp_model.specs.Judged.{judged}
 use Rattle.pp_tags.specs.declared.tag_filter.TagFilter.{TagFilter}
 use Rattle.pp_tags.specs.TagFilters.{filter_in_force, subjects, by_text, AreTagVerdicts, HasItsTags}
 use Rattle.pp_tags.specs.TagPairs.{tag_pairs}
-use Rattle.pp_desk.specs.Script.{Give}
+use Rattle.pp_desk.specs.Words.{Give, Asking}
 use Rattle.pp_pattern.specs.declared.report.PatternRefused.{PatternRefused}
 use Rattle.pp_pattern.specs.declared.report.FrameVerdicts.{FrameVerdicts}
 use Rattle.pp_pattern.specs.declared.report.TagVerdicts.{TagVerdicts}
 use Rattle.pp_pattern.specs.declared.report.NameVerdicts.{NameVerdicts}
-use Rattle.pp_desk.specs.Asking.{Asking, ◌>>=◌}
+use Rattle.pp_desk.specs.Asking.{◌>>=◌}
 use Rattle.pp_pattern.specs.Patterns.{finder_in_force, part_finder, judge_option, judge_parts}
 
 -- what a matcher finds: a pattern in a subject

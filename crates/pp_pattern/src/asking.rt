@@ -1,8 +1,7 @@
 //! Patterns that are asked of the desk's matcher.
 
 ghost use Rattle.std.specs.Prelude.{◌≡◌, false, map, slice_set, IfOk, option_map};
-ghost use Rattle.pp_desk.specs.Went.{Went};
-ghost use Rattle.pp_desk.specs.Asking.{settled};
+ghost use Rattle.pp_desk.specs.Words.{Went, settled};
 ghost use Rattle.pp_pattern.specs.Patterns.{judge_pattern, judge_option, finder, finder_in_force};
 ghost use Rattle.pp_pattern.specs.Masks.{masked};
 

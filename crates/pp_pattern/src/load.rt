@@ -1,8 +1,7 @@
 //! The two patterns that a profile has of its own (profile.proto, `drop_frames` and `keep_frames`).
 
 ghost use Rattle.std.specs.Prelude.{◌≡◌, IfOk};
-ghost use Rattle.pp_desk.specs.Went.{Went};
-ghost use Rattle.pp_desk.specs.Asking.{settled};
+ghost use Rattle.pp_desk.specs.Words.{Went, settled};
 ghost use Rattle.pp_pattern.specs.Load.{judge_load, load_verdicts, whole_name};
 
 use crate::asking::judge_option;

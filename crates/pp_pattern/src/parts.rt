@@ -1,8 +1,7 @@
 //! The parts of a tag filter.
 
 ghost use Rattle.std.specs.Prelude.{◌≡◌, [], map, IfOk, option_map};
-ghost use Rattle.pp_desk.specs.Went.{Went};
-ghost use Rattle.pp_desk.specs.Asking.{settled};
+ghost use Rattle.pp_desk.specs.Words.{Went, settled};
 ghost use Rattle.pp_pattern.specs.Patterns.{judge_part, judge_parts, part_finder, any_text};
 
 use crate::asking::judge_pattern;

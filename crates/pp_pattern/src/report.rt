@@ -3,8 +3,7 @@
 ghost use Rattle.std.specs.Prelude.{◌≡◌, [], IfOk, unwrap_or};
 ghost use Rattle.std.specs.Option.{option_copied};
 ghost use Rattle.pp_model.specs.declared.verdicts.Slot.TheVariants.{Own};
-ghost use Rattle.pp_desk.specs.Went.{Went};
-ghost use Rattle.pp_desk.specs.Asking.{settled};
+ghost use Rattle.pp_desk.specs.Words.{Went, settled};
 ghost use Rattle.pp_pattern.specs.Patterns.{judge_option};
 ghost use Rattle.pp_pattern.specs.Report.{AreVerdictsOf, slot_refused, found_in, all_verdicts, judge, judge_with, verdicts_with, judge_frames, judge_tags, judge_filter, judge_names, verdicts_of, frames_found, tags_found, parts_found, names_found, tags_for};
 

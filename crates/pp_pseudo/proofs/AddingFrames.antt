@@ -8,16 +8,9 @@ use Rattle.std.proofs.lemmas.List.{append-nil, map-append, reverse-append, get_o
 use Rattle.std.proofs.lemmas.List.Elements.{recursion_from_All, All-from_recursion}
 use Rattle.std.proofs.lemmas.List.Sums.{AllPass-from_list_all}
 use Rattle.std.proofs.lemmas.Option.{slice_get_within, slice_get-get_or, get_or_from_slice_get}
-use Rattle.pp_base.specs.Front.{IsFront}
+use Rattle.pp_base.specs.Words.{IsFront}
 use Rattle.pp_base.proofs.Lists.{all_push, all_append, all_by}
-use Rattle.pp_model.specs.declared.frame.Frame.{Frame}
-use Rattle.pp_model.specs.declared.loaded.Loaded.{Loaded}
-use Rattle.pp_model.specs.declared.profile.Label.{Label}
-use Rattle.pp_model.specs.declared.profile.Location.{Location}
-use Rattle.pp_model.specs.declared.profile.Sample.{Sample}
-use Rattle.pp_model.specs.declared.profile.Profile.{Profile}
-use Rattle.pp_model.specs.Conditions.{IsFrameOf, IsSampleOf}
-use Rattle.pp_model.specs.Rules.{NoRuleFails, IsCompact, location_refers, label_has_texts}
+use Rattle.pp_model.specs.Words.{Frame, Loaded, Label, Location, Sample, Profile, IsFrameOf, IsSampleOf, NoRuleFails, IsCompact, location_refers, label_has_texts}
 use Rattle.pp_model.proofs.RuleLemmas.{passes}
 use Rattle.pp_stack.specs.Runs.{kept_if}
 use Rattle.pp_share.specs.Described.{LocationText}

@@ -4,8 +4,7 @@ use Rattle.std.specs.Prelude.{codes, bytes_eq}
 use Rattle.std.specs.List.{join_with_byte}
 use Rattle.std.proofs.lemmas.List.{append-nil, take_more, map-append}
 use Rattle.std.proofs.lemmas.List.Elements.{filter-append}
-use Rattle.pp_model.specs.declared.profile.Label.{Label}
-use Rattle.pp_model.specs.declared.profile.Profile.{Profile}
+use Rattle.pp_model.specs.Words.{Label, Profile}
 use Rattle.pp_stack.specs.Runs.{kept_if}
 use Rattle.pp_tags.specs.Labels.{key_text}
 use Rattle.pp_pseudo.specs.Values.{frame_value, key_values, joined_values, tag_name, frame_name, value_separator}

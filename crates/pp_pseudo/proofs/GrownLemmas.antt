@@ -9,21 +9,11 @@ use Rattle.std.proofs.lemmas.List.Folds.{list_any-append}
 use Rattle.std.proofs.lemmas.List.FromFn.{get_or-range_with_len, length-range_with_len, map-range_with_len_more}
 use Rattle.std.proofs.lemmas.List.Sums.{AllPass-from_list_all}
 use Rattle.std.proofs.lemmas.Option.{slice_get-get_or, slice_get_within, get_or_from_slice_get}
-use Rattle.pp_model.specs.declared.profile.Label.{Label}
-use Rattle.pp_model.specs.declared.profile.Line.{Line}
-use Rattle.pp_model.specs.declared.profile.Mapping.{Mapping}
-use Rattle.pp_model.specs.declared.profile.Function.{Function}
-use Rattle.pp_model.specs.declared.profile.Location.{Location}
-use Rattle.pp_model.specs.declared.profile.Profile.{Profile}
-use Rattle.pp_model.specs.declared.profile.Sample.{Sample}
-use Rattle.pp_model.specs.declared.profile.ValueType.{ValueType}
-use Rattle.pp_model.specs.Lookup.{text_of, place_read, function_with}
-use Rattle.pp_model.specs.Rules.{NoRuleFails, IsCompact, AreNumbered, begins_empty, is_text, header_texts, type_has_texts, label_has_texts, mapping_has_texts, function_has_texts, function_ids, is_zero_or_in, stands_in, location_refers}
+use Rattle.pp_model.specs.Words.{Label, Line, Mapping, Function, Location, Profile, Sample, ValueType, text_of, place_read, function_with, NoRuleFails, IsCompact, AreNumbered, begins_empty, is_text, header_texts, type_has_texts, label_has_texts, mapping_has_texts, function_has_texts, function_ids, is_zero_or_in, stands_in, location_refers, distinct}
 use Rattle.pp_model.proofs.RuleLemmas.{passes, contains_from}
 use Rattle.pp_model.proofs.CompactLemmas.{find_by_place, place_of}
 use Rattle.pp_share.specs.Described.{FunctionText, MappingText, LocationText, SampleText, less, start_of, function_text, mapping_text, function_found, mapping_found, line_text, label_text}
 use Rattle.pp_share.specs.Alike.{first_alike}
-use Rattle.pp_model.specs.FirstSight.{distinct}
 use Rattle.pp_share.specs.Header.{type_text, header_of, first_nonempty}
 use Rattle.std.specs.Str.{bytes_eq}
 use Rattle.pp_base.proofs.Lists.{all_append, all_by, map_agree}

@@ -11,18 +11,7 @@ use Rattle.std.proofs.lemmas.List.Folds.{list_any-append, list_any_at}
 use Rattle.std.proofs.lemmas.Slice.Eq.{bytes_eq-Decides}
 use Rattle.std.proofs.Math.Bool.{or-false, or_comm}
 use Rattle.pp_base.proofs.Lists.{all_by}
-use Rattle.pp_model.specs.declared.frame.Frame.{Frame}
-use Rattle.pp_model.specs.declared.loaded.Loaded.{Loaded}
-use Rattle.pp_model.specs.declared.profile.Label.{Label}
-use Rattle.pp_model.specs.declared.profile.Line.{Line}
-use Rattle.pp_model.specs.declared.profile.Function.{Function}
-use Rattle.pp_model.specs.declared.profile.Location.{Location}
-use Rattle.pp_model.specs.declared.profile.Sample.{Sample}
-use Rattle.pp_model.specs.declared.profile.Profile.{Profile}
-use Rattle.pp_model.specs.Lookup.{text_at, text_of, text_number, function_with}
-use Rattle.pp_model.specs.FrameTexts.{Written, written_at, written_line, written_lines}
-use Rattle.pp_model.specs.Rules.{NoRuleFails}
-use Rattle.pp_model.specs.Sizes.{value_in}
+use Rattle.pp_model.specs.Words.{Frame, Loaded, Label, Line, Function, Location, Sample, Profile, text_at, text_of, text_number, function_with, Written, written_at, written_line, written_lines, NoRuleFails, value_in}
 use Rattle.pp_model.proofs.RuleLemmas.{passes}
 use Rattle.pp_share.specs.Described.{FunctionText, LineText, LocationText, SampleText, function_found, function_text, line_text}
 use Rattle.pp_share.specs.Alike.{same_location, same_sample}

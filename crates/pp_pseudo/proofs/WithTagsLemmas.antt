@@ -6,14 +6,9 @@ use Rattle.std.proofs.lemmas.Bool.{eqb-true}
 use Rattle.std.proofs.lemmas.List.{append-nil, length-map}
 use Rattle.std.proofs.lemmas.List.Elements.{recursion_from_All}
 use Rattle.std.proofs.lemmas.List.Sums.{sum_by-cons}
-use Rattle.pp_base.specs.Front.{IsFront}
+use Rattle.pp_base.specs.Words.{IsFront}
 use Rattle.pp_base.proofs.Lists.{all_by}
-use Rattle.pp_model.specs.declared.loaded.Loaded.{Loaded}
-use Rattle.pp_model.specs.declared.profile.Location.{Location}
-use Rattle.pp_model.specs.declared.profile.Sample.{Sample}
-use Rattle.pp_model.specs.declared.profile.Profile.{Profile}
-use Rattle.pp_model.specs.Rules.{NoRuleFails, IsCompact, location_refers}
-use Rattle.pp_model.specs.Sizes.{IsCountable, absolute_sum, value_in}
+use Rattle.pp_model.specs.Words.{Loaded, Location, Sample, Profile, NoRuleFails, IsCompact, location_refers, IsCountable, absolute_sum, value_in}
 use Rattle.pp_model.proofs.RuleLemmas.{passes}
 use Rattle.pp_merge.proofs.MergedLengths.{no_longer}
 use Rattle.pp_merge.proofs.MergedTotals.{absolutes_within}

@@ -1,7 +1,6 @@
 -- The profile that a report is made of: the loaded one, or the same with the frames from labels that are asked for.
 use Rattle.std.specs.Prelude.{ℕ, ◌==◌, ◌&&◌, List, length, if◌then◌else◌}
-use Rattle.pp_model.specs.declared.loaded.Loaded.{Loaded}
-use Rattle.pp_model.specs.declared.presentation.Presentation.{Presentation}
+use Rattle.pp_model.specs.Words.{Loaded, Presentation}
 use Rattle.pp_pseudo.specs.KeyList.{key_list}
 use Rattle.pp_pseudo.specs.WithTags.{tagged}
 

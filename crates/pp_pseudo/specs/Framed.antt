@@ -3,12 +3,8 @@
 -- cites it.
 use Rattle.std.specs.Prelude.{◌≡◌, ℕ, ◌<◌, ◌^◌, List, ◌++◌, map}
 use Rattle.std.specs.List.{AllByRecursion}
-use Rattle.pp_base.specs.Front.{IsFront}
-use Rattle.pp_model.specs.declared.loaded.Loaded.{Loaded}
-use Rattle.pp_model.specs.declared.profile.Location.{Location}
-use Rattle.pp_model.specs.declared.profile.Sample.{Sample}
-use Rattle.pp_model.specs.declared.profile.Profile.{Profile}
-use Rattle.pp_model.specs.Rules.{NoRuleFails, IsCompact}
+use Rattle.pp_base.specs.Words.{IsFront}
+use Rattle.pp_model.specs.Words.{Loaded, Location, Sample, Profile, NoRuleFails, IsCompact}
 use Rattle.pp_share.specs.Described.{LocationText}
 use Rattle.pp_restack.specs.Places.{ArePlaces, IsWithin, IsCutSample, entry_in, spread_in, located, told, with_cut}
 use Rattle.pp_pseudo.specs.Grown.{grown}

@@ -1,9 +1,7 @@
 -- A profile with functions of further names behind its own. No public clause cites it.
 use Rattle.std.specs.Prelude.{ℕ, ◌+◌, pos, List, ◌++◌, length, map}
 use Rattle.std.specs.List.{range_with_len}
-use Rattle.pp_model.specs.declared.profile.Line.{Line}
-use Rattle.pp_model.specs.declared.profile.Function.{Function}
-use Rattle.pp_model.specs.declared.profile.Profile.{Profile}
+use Rattle.pp_model.specs.Words.{Line, Function, Profile}
 
 -- the id of the function of the name with the number
 abbrev pub name_id : Profile → ℕ → ℕ

@@ -2,11 +2,7 @@
 use Rattle.std.specs.Prelude.{◌≡◌, ◌≢◌, ℕ, ◌<◌, Bool, false, List, [], filter, length, bytes_eq, All, Contains}
 use Rattle.std.specs.List.{list_any}
 use Rattle.std.specs.Option.{option_map_or}
-use Rattle.pp_model.specs.declared.profile.Sample.{Sample}
-use Rattle.pp_model.specs.declared.profile.Profile.{Profile}
-use Rattle.pp_model.specs.declared.loaded.Loaded.{Loaded}
-use Rattle.pp_model.specs.Lookup.{text_of}
-use Rattle.pp_model.specs.FrameTexts.{written_stack}
+use Rattle.pp_model.specs.Words.{Sample, Profile, Loaded, text_of, written_stack}
 use Rattle.pp_merge.specs.Totals.{value_sum}
 use Rattle.pp_pseudo.specs.Values.{value_text_of, tag_name}
 

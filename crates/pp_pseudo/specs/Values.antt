@@ -2,9 +2,7 @@
 use Rattle.std.specs.Prelude.{ℕ, Bool, true, false, List, [], ◌∷◌, ◌++◌, codes, map, filter, Option, Some, None, option_map, bytes_eq, if◌then◌else◌}
 use Rattle.std.specs.List.{filter_map, join_with_byte}
 use Rattle.std.specs.Fmt.{signed_decimal}
-use Rattle.pp_model.specs.declared.profile.Label.{Label}
-use Rattle.pp_model.specs.declared.profile.Profile.{Profile}
-use Rattle.pp_model.specs.Lookup.{text_of}
+use Rattle.pp_model.specs.Words.{Label, Profile, text_of}
 use Rattle.pp_tags.specs.Labels.{has_text, key_text, label_value_text}
 
 -- the value of a label: its text, or its number's digits followed by the text of the unit that it names

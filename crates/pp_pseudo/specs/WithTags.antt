@@ -1,14 +1,6 @@
 -- Frames made from labels: for each listed key a frame at the root or at the leaf of each sample that has the label.
 use Rattle.std.specs.Prelude.{ℕ, ℤ, pos, false, List, [], ◌∷◌, ◌++◌, map, reverse, Some, None}
-use Rattle.pp_model.specs.declared.frame.Frame.{Frame}
-use Rattle.pp_model.specs.declared.loaded.Loaded.{Loaded}
-use Rattle.pp_model.specs.declared.profile.Label.{Label}
-use Rattle.pp_model.specs.declared.profile.Sample.{Sample}
-use Rattle.pp_model.specs.declared.profile.Profile.{Profile}
-use Rattle.pp_model.specs.Lookup.{text_of}
-use Rattle.pp_model.specs.Frames.{stack_of}
-use Rattle.pp_model.specs.FrameTexts.{written}
-use Rattle.pp_model.specs.Judged.{loaded_of}
+use Rattle.pp_model.specs.Words.{Frame, Loaded, Label, Sample, Profile, text_of, stack_of, written, loaded_of}
 use Rattle.pp_stack.specs.Filters.{load_pruned}
 use Rattle.pp_stack.specs.LoadFinders.{load_finders}
 use Rattle.pp_share.specs.Described.{FunctionText, LocationText, SampleText, label_text}

@@ -1,7 +1,7 @@
 //! The name of a frame that is made from the labels of a key.
 ghost use Rattle.std.specs.Prelude.{◌≡◌, ◌++◌, true, bytes_eq, IfOk, OnOk, if◌then◌else◌};
 ghost use Rattle.std.specs.Fmt.{signed_decimal};
-ghost use Rattle.pp_model.specs.Lookup.{text_of};
+ghost use Rattle.pp_model.specs.Words.{text_of};
 ghost use Rattle.pp_stack.specs.Runs.{kept_if};
 ghost use Rattle.pp_tags.specs.Labels.{key_text};
 ghost use Rattle.pp_pseudo.specs.Values.{frame_value, frame_name, value_separator};

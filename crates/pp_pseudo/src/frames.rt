@@ -1,8 +1,7 @@
 //! The frames of a sample, with those that are made from its labels.
 ghost use Rattle.std.specs.Prelude.{◌∷◌, [], map, OnOk};
 ghost use Rattle.std.specs.Option.{option_to_list};
-ghost use Rattle.pp_model.specs.Conditions.{RefersTo};
-ghost use Rattle.pp_model.specs.Rules.{NoRuleFails, IsCompact};
+ghost use Rattle.pp_model.specs.Words.{RefersTo, NoRuleFails, IsCompact};
 ghost use Rattle.pp_restack.specs.Stacks.{by_place, cut_text};
 ghost use Rattle.pp_pseudo.specs.Values.{frame_name};
 ghost use Rattle.pp_pseudo.specs.WithTags.{tag_location, tag_locations, pruned_stack, tagged_sample};

@@ -1,6 +1,6 @@
 //! The profile that a report is made of: the loaded one, or the same with the frames from labels that are asked for.
 ghost use Rattle.std.specs.Prelude.{◌≡◌, IfOk, unwrap_or};
-ghost use Rattle.pp_model.specs.Sizes.{IsCountable};
+ghost use Rattle.pp_model.specs.Words.{IsCountable};
 ghost use Rattle.pp_pseudo.specs.Basis.{framed_by, framed_for};
 
 use crate::keys::key_list;

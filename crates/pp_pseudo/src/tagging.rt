@@ -1,7 +1,7 @@
 //! A profile with frames that are made from labels.
 ghost use Rattle.std.specs.Prelude.{◌≡◌, ◌++◌, ◌<◌, ◌^◌, [], IfOk, OnOk};
 ghost use Rattle.std.specs.List.{AllByRecursion};
-ghost use Rattle.pp_model.specs.Sizes.{IsCountable};
+ghost use Rattle.pp_model.specs.Words.{IsCountable};
 ghost use Rattle.pp_pseudo.specs.Grown.{grown};
 ghost use Rattle.pp_pseudo.specs.TagSums.{KeepsTagSums};
 ghost use Rattle.pp_pseudo.specs.WithTags.{tagged};

@@ -3,7 +3,7 @@ use Rattle.std.proofs.Common.{◌≡◌, ◌<◌, ◌≤◌, ℕ, zero, suc, Lis
 use Rattle.std.specs.Prelude.{IfSome, is_some}
 use Rattle.std.proofs.lemmas.Bool.{false≢true}
 use Rattle.std.specs.Io.KnownBytes.{Appends, Consumes, IsAtEnd, Keeps}
-use Rattle.pp_base.specs.Told.{before, extended}
+use Rattle.pp_base.specs.Words.{before, extended}
 
 -- bytes that a reader lost stood in front of what it has left
 pub consumed : (old new : Option (List ℕ)) (bytes : List ℕ) → is_some old ≡ is_some new → Consumes old new bytes → old ≡ before bytes new

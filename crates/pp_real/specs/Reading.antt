@@ -1,6 +1,6 @@
 -- What reading a file into a text gives.
 use Rattle.std.specs.Prelude.{◌≡◌, ◌<◌, ◌≤◌, ◌+◌, ◌++◌, ⊤, ℕ, List, Option, IfSome, length}
-use Rattle.pp_base.specs.declared.files.FileRead.{FileRead}
+use Rattle.pp_base.specs.Words.{FileRead}
 use Rattle.pp_base.specs.declared.files.FileRead.TheVariants.{Read, TooLong}
 
 -- all that was read is within the limit

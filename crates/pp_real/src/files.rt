@@ -1,6 +1,6 @@
 //! The files of the machine.
 ghost use Rattle.std.specs.Prelude.{◌≡◌, ◌≤◌, length, None};
-ghost use Rattle.pp_base.specs.FileAnswers.{AnswersRead};
+ghost use Rattle.pp_base.specs.Words.{AnswersRead};
 ghost use Rattle.pp_real.specs.Reading.{FitsLimit, ReadsToEnd};
 
 use pp_base::{FileRead, FileWrite, Files, Text};

@@ -1,7 +1,6 @@
 //! Any reader as a source.
 ghost use Rattle.std.specs.Prelude.{◌≡◌, ◌<◌, ◌≤◌, length};
-ghost use Rattle.pp_base.specs.Fault.{Rose};
-ghost use Rattle.pp_base.specs.Reads.{Takes};
+ghost use Rattle.pp_base.specs.Words.{Rose, Takes};
 
 use crate::steady::SteadyRead;
 use pp_base::{Source, SourceRead};

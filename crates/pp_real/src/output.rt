@@ -1,7 +1,6 @@
 //! Any writer as a sink.
 ghost use Rattle.std.specs.Prelude.{◌≡◌, ◌<◌, ◌≤◌, length};
-ghost use Rattle.pp_base.specs.Fault.{Rose};
-ghost use Rattle.pp_base.specs.Writes.{Puts};
+ghost use Rattle.pp_base.specs.Words.{Rose, Puts};
 
 use crate::steady::SteadyWrite;
 use pp_base::{Sink, SinkWrite};

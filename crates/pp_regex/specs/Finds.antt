@@ -4,9 +4,7 @@ use Rattle.std.specs.Str.{is_utf8}
 use Rattle.regex.specs.Patterns.{Re, Config, default_config, find}
 use Rattle.regex_syntax.specs.Brackets.{Nested}
 use Rattle.regex_syntax.specs.Grammar.{Names, read}
-use Rattle.pp_base.specs.Calls.{one_more}
-use Rattle.pp_base.specs.Judges.{Answer}
-use Rattle.pp_base.specs.declared.matcher.Judgement.{Judgement}
+use Rattle.pp_base.specs.Words.{one_more, Answer, Judgement}
 use Rattle.pp_base.specs.declared.matcher.Judgement.TheVariants.{Found, Refused, Memory}
 
 -- the options under which a pattern is read: the crate's own, for searches in bytes

@@ -1,7 +1,7 @@
 //! A matcher whose patterns are regular expressions.
 
 ghost use Rattle.std.specs.Prelude.{◌≡◌, [], Some};
-ghost use Rattle.pp_base.specs.Judges.{Judges};
+ghost use Rattle.pp_base.specs.Words.{Judges};
 ghost use Rattle.pp_regex.specs.Finds.{finds, HasMatchCause};
 
 use crate::building::{BuildRefusal, build};

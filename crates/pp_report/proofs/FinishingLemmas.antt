@@ -1,20 +1,12 @@
 -- What the writers of reports ask for, and what they leave.
 use Rattle.std.proofs.Common.{◌≡◌, ℕ, Bool, true, false, List, [], ◌++◌, refl, sym, ap, ◌∙◌, subst}
 use Rattle.std.specs.Prelude.{Option, Some, None, Result, Ok, Err, IfOk, unwrap_or, if◌then◌else◌}
-use Rattle.pp_base.specs.declared.memory.Memory.{Memory}
-use Rattle.pp_desk.specs.declared.stop.Stop.{Stop}
-use Rattle.pp_desk.specs.Script.{Script, Give, Make, ◌>>=◌}
-use Rattle.pp_desk.specs.Went.{Went}
-use Rattle.pp_desk.specs.World.{World}
+use Rattle.pp_base.specs.Words.{Memory}
+use Rattle.pp_desk.specs.Words.{Stop, Script, Give, Make, ◌>>=◌, Went, World}
 use Rattle.pp_desk.proofs.Going.{gives, wants, goes_give, stops_first}
-use Rattle.pp_model.specs.declared.config.Config.{Config}
-use Rattle.pp_model.specs.declared.loaded.Loaded.{Loaded}
-use Rattle.pp_model.specs.declared.profile.Profile.{Profile}
-use Rattle.pp_model.specs.declared.report.BaseKind.{BaseKind}
-use Rattle.pp_model.specs.declared.report.Report.{Report}
+use Rattle.pp_model.specs.Words.{Config, Loaded, Profile, BaseKind, Report, Finders}
 use Rattle.pp_model.specs.declared.report.Report.TheVariants as reports
-use Rattle.pp_model.specs.Finders.{Finders}
-use Rattle.pp_units.specs.Head.{Facts}
+use Rattle.pp_units.specs.Words.{Facts}
 use Rattle.pp_tables.specs.Encode.{encode}
 use Rattle.pp_pattern.specs.Report.{Finds}
 use Rattle.pp_source.specs.declared.refusal.ListRefusal.{ListRefusal}

@@ -2,17 +2,11 @@
 use Rattle.std.proofs.Common.{◌≡◌, ℕ, List, [], ◌++◌, length, drop, refl, sym, ap, ◌∙◌}
 use Rattle.std.specs.Prelude.{Option, Result, Ok, Err}
 use Rattle.std.proofs.Math.Seq.{drop-append_seam, drop-length}
-use Rattle.pp_base.specs.Front.{IsFront}
-use Rattle.pp_desk.specs.declared.stop.Stop.{Stop}
+use Rattle.pp_base.specs.Words.{IsFront}
+use Rattle.pp_desk.specs.Words.{Stop, Give, Went, World}
 use Rattle.pp_desk.specs.declared.stop.Stop.TheVariants as stops
-use Rattle.pp_desk.specs.Script.{Give}
-use Rattle.pp_desk.specs.Went.{Went}
-use Rattle.pp_desk.specs.World.{World}
 use Rattle.pp_desk.proofs.Going.{stops_first, goes_second, goes_give, wants}
-use Rattle.pp_model.specs.declared.config.Config.{Config}
-use Rattle.pp_model.specs.declared.loaded.Loaded.{Loaded}
-use Rattle.pp_model.specs.declared.report.BaseKind.{BaseKind}
-use Rattle.pp_model.specs.declared.report.Report.{Report}
+use Rattle.pp_model.specs.Words.{Config, Loaded, BaseKind, Report}
 use Rattle.pp_pattern.specs.Report.{Finds}
 use Rattle.pp_report.specs.declared.refusal.ReportRefusal.{ReportRefusal}
 use Rattle.pp_report.specs.Prepared.{Settled, prepare}

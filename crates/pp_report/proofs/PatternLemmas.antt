@@ -1,19 +1,12 @@
 -- The verdicts of a report's patterns are what its finders find.
 use Rattle.std.proofs.Common.{ℕ}
 use Rattle.std.specs.Prelude.{Option, option_map}
-use Rattle.pp_model.specs.declared.loaded.Loaded.{Loaded}
-use Rattle.pp_model.specs.declared.report.Report.{Report}
-use Rattle.pp_model.specs.declared.verdicts.Verdicts.{Verdicts}
-use Rattle.pp_model.specs.declared.filtering.Filtering.{Filtering}
-use Rattle.pp_model.specs.Conditions.{IsColumnOf}
-use Rattle.pp_model.specs.Rules.{IsCompact}
-use Rattle.pp_model.specs.Sizes.{IsCountable}
+use Rattle.pp_model.specs.Words.{Loaded, Report, Verdicts, Filtering, IsColumnOf, IsCompact, IsCountable, own_pattern}
 use Rattle.pp_pattern.specs.Report.{Finds, AreVerdictsOf}
 use Rattle.pp_stack.specs.LoadFinders.{finder_by}
 use Rattle.pp_stack.proofs.LoadFinderLemmas.{same_judged}
 use Rattle.pp_count.specs.Counted.{CanCount}
 use Rattle.pp_count.specs.Seeing.{HoldsFilters}
-use Rattle.pp_model.specs.ReportFacts.{own_pattern}
 use Rattle.pp_report.specs.Patterns.{report_finders}
 
 module _ (finds : Finds) (l : Loaded) (report : Report) (filtering : Filtering) (v : Verdicts)

@@ -2,26 +2,13 @@
 use Rattle.std.proofs.Common.{◌≡◌, ℕ, Bool, true, false, List, [], append-nil, refl, sym, ap, ◌∙◌, subst}
 use Rattle.std.specs.Prelude.{Result, Ok, Err, Option, Some, None, unwrap_or, if◌then◌else◌}
 use Rattle.std.proofs.lemmas.Bool.{true≢false}
-use Rattle.pp_base.specs.Front.{IsFront}
-use Rattle.pp_desk.specs.declared.stop.Stop.{Stop}
+use Rattle.pp_base.specs.Words.{IsFront}
+use Rattle.pp_desk.specs.Words.{Stop, go_on, Give, Went, World}
 use Rattle.pp_desk.specs.declared.stop.Stop.TheVariants as stops
-use Rattle.pp_desk.specs.Asking.{go_on}
-use Rattle.pp_desk.specs.Script.{Give}
-use Rattle.pp_desk.specs.Went.{Went}
-use Rattle.pp_desk.specs.World.{World}
 use Rattle.pp_desk.proofs.AskingLemmas.{asking_stops, asking_refused, asking_second, asking_gives}
 use Rattle.pp_desk.proofs.Going.{gives, wants}
-use Rattle.pp_model.specs.declared.config.Config.{Config}
-use Rattle.pp_model.specs.declared.loaded.Loaded.{Loaded}
-use Rattle.pp_model.specs.declared.report.BaseKind.{BaseKind}
-use Rattle.pp_model.specs.declared.report.Report.{Report}
+use Rattle.pp_model.specs.Words.{Config, Loaded, BaseKind, Report, Verdicts, Filtering, Presentation, IsColumnOf, IsCompact, IsCountable, own_pattern, is_counted}
 use Rattle.pp_model.specs.declared.report.Report.TheVariants as reports
-use Rattle.pp_model.specs.declared.verdicts.Verdicts.{Verdicts}
-use Rattle.pp_model.specs.declared.filtering.Filtering.{Filtering}
-use Rattle.pp_model.specs.declared.presentation.Presentation.{Presentation}
-use Rattle.pp_model.specs.Conditions.{IsColumnOf}
-use Rattle.pp_model.specs.Rules.{IsCompact}
-use Rattle.pp_model.specs.Sizes.{IsCountable}
 use Rattle.pp_pattern.specs.Report.{Finds, AreVerdictsOf}
 use Rattle.pp_pseudo.specs.Basis.{framed_for}
 use Rattle.pp_count.specs.declared.counted.Counted.{Counted}
@@ -31,7 +18,6 @@ use Rattle.pp_report.specs.declared.prepared.Prepared.{Prepared}
 use Rattle.pp_report.specs.declared.refusal.ReportRefusal.{ReportRefusal}
 use Rattle.pp_report.specs.declared.shows.Shows.{Shows}
 use Rattle.pp_report.specs.Notes.{notes_by}
-use Rattle.pp_model.specs.ReportFacts.{own_pattern, is_counted}
 use Rattle.pp_report.specs.Patterns.{report_finders, ask_patterns}
 use Rattle.pp_report.specs.Prepared.{Settled, Showing, showing, settled_of, counts_settled, notes_of, prepare_on, prepare_counts, prepare_showing, AreCountsNoted, IsPrepared, showing_for}
 use Rattle.pp_report.specs.Tagged.{basis_of}

@@ -3,13 +3,11 @@ use Rattle.std.proofs.Common.{◌≡◌, refl, true, false, [], ◌∷◌, codes
 use Rattle.std.specs.Prelude.{Some, None}
 use Rattle.pp_model.specs.declared.report.Report.TheVariants as reports
 use Rattle.pp_model.specs.declared.verdicts.Slot.TheVariants as slots
-use Rattle.pp_model.specs.Defaults.{standard_filtering}
-use Rattle.pp_units.specs.Scales.{is_named, scale_of}
-use Rattle.pp_units.specs.Shown.{forced, is_same_kind}
+use Rattle.pp_model.specs.Words.{standard_filtering, option_name}
+use Rattle.pp_units.specs.Words.{is_named, scale_of, forced, is_same_kind}
 use Rattle.pp_report.specs.declared.refusal.ReportRefusal.TheVariants.{BadSampleIndex, PatternRefused, NoMatch}
 use Rattle.pp_report.specs.Heads.{wanted_unit}
 use Rattle.pp_report.specs.Messages.{report_refusal_line}
-use Rattle.pp_model.specs.ReportFacts.{option_name}
 use Rattle.pp_report.specs.Notes.{note_unless, notes_by}
 use Rattle.pp_stack.specs.LoadFinders.{known_verdict}
 

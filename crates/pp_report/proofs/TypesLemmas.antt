@@ -6,14 +6,7 @@ use Rattle.std.specs.Option.{MatchOption, option_and_then, option_map_or}
 use Rattle.std.proofs.lemmas.List.{length-map}
 use Rattle.std.proofs.lemmas.Option.{slice_get-map}
 use Rattle.std.proofs.lemmas.Simd.{map-map}
-use Rattle.pp_model.specs.declared.loaded.Loaded.{Loaded}
-use Rattle.pp_model.specs.declared.profile.Profile.{Profile}
-use Rattle.pp_model.specs.declared.profile.ValueType.{ValueType}
-use Rattle.pp_model.specs.declared.report.Report.{Report}
-use Rattle.pp_model.specs.declared.presentation.Presentation.{Presentation}
-use Rattle.pp_model.specs.Conditions.{IsColumnOf}
-use Rattle.pp_model.specs.Lookup.{text_of}
-use Rattle.pp_model.specs.ReportFacts.{shows_values, is_counted}
+use Rattle.pp_model.specs.Words.{Loaded, Profile, ValueType, Report, Presentation, IsColumnOf, text_of, shows_values, is_counted}
 use Rattle.pp_share.specs.Header.{HeaderText, TypeText, type_text, header_of}
 use Rattle.pp_share.specs.Written.{Contents, type_texts, written, written_type}
 use Rattle.pp_merge.proofs.RoundTrip.{IsText, text_again}

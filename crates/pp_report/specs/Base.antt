@@ -1,9 +1,7 @@
 -- Whether a report has the base that it compares with.
 use Rattle.std.specs.Prelude.{Bool, true, false, not, ◌&&◌, Option, Some, None}
-use Rattle.pp_model.specs.declared.profile.Profile.{Profile}
-use Rattle.pp_model.specs.declared.report.BaseKind.{BaseKind}
+use Rattle.pp_model.specs.Words.{Profile, BaseKind, Report}
 use Rattle.pp_model.specs.declared.report.BaseKind.TheVariants as bases
-use Rattle.pp_model.specs.declared.report.Report.{Report}
 use Rattle.pp_model.specs.declared.report.Report.TheVariants as reports
 use Rattle.pp_count.specs.Base.{has_base}
 

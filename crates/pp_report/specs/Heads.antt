@@ -1,13 +1,8 @@
 -- What a report shows: its column, its unit and the head above it.
 use Rattle.std.specs.Prelude.{ℕ, List, [], ◌∷◌, codes, bytes_eq, map, slice_get, Option, None, Some, option_map, unwrap_or, if◌then◌else◌}
 use Rattle.std.specs.Option.{option_and_then, option_map_or}
-use Rattle.pp_model.specs.declared.config.Config.{Config}
-use Rattle.pp_model.specs.declared.profile.Profile.{Profile}
-use Rattle.pp_model.specs.declared.profile.ValueType.{ValueType}
-use Rattle.pp_model.specs.Finders.{Finders}
-use Rattle.pp_model.specs.Lookup.{text_of}
-use Rattle.pp_units.specs.Head.{Facts}
-use Rattle.pp_units.specs.Shown.{Shown, picked_for_each, forced, picked}
+use Rattle.pp_model.specs.Words.{Config, Profile, ValueType, Finders, text_of}
+use Rattle.pp_units.specs.Words.{Facts, Shown, picked_for_each, forced, picked}
 use Rattle.pp_share.specs.Header.{TypeText, type_text}
 use Rattle.pp_count.specs.Counts.{total_of}
 

@@ -1,7 +1,6 @@
 -- The lines that tell why a report is not made.
 use Rattle.std.specs.Prelude.{ℕ, List, ◌++◌, codes}
-use Rattle.pp_model.specs.declared.report.Report.{Report}
-use Rattle.pp_model.specs.ReportFacts.{option_name}
+use Rattle.pp_model.specs.Words.{Report, option_name}
 use Rattle.pp_report.specs.declared.refusal.ReportRefusal.{ReportRefusal}
 use Rattle.pp_report.specs.declared.refusal.ReportRefusal.TheVariants as refusals
 

@@ -1,11 +1,7 @@
 -- The notes of a report: a line for each option that is in force and matches nothing.
 use Rattle.std.specs.Prelude.{ℕ, ◌==◌, Bool, true, ◌||◌, List, [], ◌++◌, length, codes, slice_index_or, if◌then◌else◌}
-use Rattle.pp_model.specs.declared.profile.Profile.{Profile}
-use Rattle.pp_model.specs.declared.verdicts.Slot.{Slot}
+use Rattle.pp_model.specs.Words.{Profile, Slot, Filtering, Finders, variable_name}
 use Rattle.pp_model.specs.declared.verdicts.Slot.TheVariants as slots
-use Rattle.pp_model.specs.declared.filtering.Filtering.{Filtering}
-use Rattle.pp_model.specs.Finders.{Finders}
-use Rattle.pp_model.specs.ReportFacts.{variable_name}
 use Rattle.pp_count.specs.Matches.{matches_of}
 
 -- the line on an option without a match

@@ -1,13 +1,7 @@
 -- The patterns of a report, and what they find.
 use Rattle.std.specs.Prelude.{Result, Ok, Err, option_map}
-use Rattle.pp_desk.specs.Asking.{Asking}
-use Rattle.pp_desk.specs.Script.{Give, ◌>>=◌}
-use Rattle.pp_model.specs.declared.loaded.Loaded.{Loaded}
-use Rattle.pp_model.specs.declared.report.Report.{Report}
-use Rattle.pp_model.specs.declared.verdicts.Verdicts.{Verdicts}
-use Rattle.pp_model.specs.declared.filtering.Filtering.{Filtering}
-use Rattle.pp_model.specs.Finders.{Finders}
-use Rattle.pp_model.specs.ReportFacts.{own_pattern}
+use Rattle.pp_desk.specs.Words.{Asking, Give, ◌>>=◌}
+use Rattle.pp_model.specs.Words.{Loaded, Report, Verdicts, Filtering, Finders, own_pattern}
 use Rattle.pp_stack.specs.LoadFinders.{finder_by}
 use Rattle.pp_pattern.specs.declared.report.PatternRefused.{PatternRefused as Refused}
 use Rattle.pp_pattern.specs.Report.{Finds, judge, finders_of}

@@ -1,18 +1,11 @@
 -- What is settled before the text of a report is made: what it shows, what it asks for, and its notes.
 use Rattle.std.specs.Prelude.{◌≡◌, ℕ, false, List, [], Option, Some, None, Result, Ok, Err, option_map, unwrap_or, if◌then◌else◌}
-use Rattle.pp_base.specs.Front.{IsFront}
-use Rattle.pp_desk.specs.declared.stop.Stop.{Stop}
-use Rattle.pp_desk.specs.Asking.{Asking, ◌>>=◌, go_on}
-use Rattle.pp_desk.specs.Script.{Give}
-use Rattle.pp_model.specs.declared.config.Config.{Config}
-use Rattle.pp_model.specs.declared.loaded.Loaded.{Loaded}
-use Rattle.pp_model.specs.declared.profile.Profile.{Profile}
-use Rattle.pp_model.specs.declared.report.Report.{Report}
-use Rattle.pp_model.specs.declared.filtering.Filtering.{Filtering}
-use Rattle.pp_model.specs.declared.presentation.Presentation.{Presentation}
-use Rattle.pp_model.specs.ReportFacts.{shows_values, is_counted}
+use Rattle.pp_base.specs.Words.{IsFront}
+use Rattle.pp_desk.specs.Words.{Stop, Asking, go_on, Give}
+use Rattle.pp_desk.specs.Asking.{◌>>=◌}
+use Rattle.pp_model.specs.Words.{Config, Loaded, Profile, Report, Filtering, Presentation, shows_values, is_counted}
 use Rattle.pp_pattern.specs.Report.{Finds}
-use Rattle.pp_units.specs.Shown.{Shown, shown}
+use Rattle.pp_units.specs.Words.{Shown, shown}
 use Rattle.pp_count.specs.Column.{column_of}
 use Rattle.pp_count.specs.Counted.{CanCount, IsCountedOf}
 use Rattle.pp_count.specs.Seeing.{HoldsFilters}

@@ -1,17 +1,11 @@
 -- What a report comes to: its notes, and its text or a refusal.
 use Rattle.std.specs.Prelude.{ℕ, List, [], length, drop, Option, Some, None, Result, Ok, Err, if◌then◌else◌}
-use Rattle.pp_base.specs.declared.memory.Memory.{Memory}
-use Rattle.pp_desk.specs.declared.stop.Stop.{Stop}
+use Rattle.pp_base.specs.Words.{Memory}
+use Rattle.pp_desk.specs.Words.{Stop, Script, Give, ◌>>=◌}
 use Rattle.pp_desk.specs.declared.stop.Stop.TheVariants as stops
-use Rattle.pp_desk.specs.Script.{Script, Give, ◌>>=◌}
-use Rattle.pp_model.specs.declared.config.Config.{Config}
-use Rattle.pp_model.specs.declared.loaded.Loaded.{Loaded}
-use Rattle.pp_model.specs.declared.profile.Profile.{Profile}
-use Rattle.pp_model.specs.declared.report.BaseKind.{BaseKind}
-use Rattle.pp_model.specs.declared.report.Report.{Report}
+use Rattle.pp_model.specs.Words.{Config, Loaded, Profile, BaseKind, Report, Finders}
 use Rattle.pp_model.specs.declared.report.Report.TheVariants as reports
-use Rattle.pp_model.specs.Finders.{Finders}
-use Rattle.pp_units.specs.Head.{Facts}
+use Rattle.pp_units.specs.Words.{Facts}
 use Rattle.pp_tables.specs.Encode.{encode}
 use Rattle.pp_pattern.specs.Report.{Finds}
 use Rattle.pp_count.specs.Counted.{has_own_match}

@@ -1,14 +1,9 @@
 -- The text of a proto report: it is read as the profile that was saved.
 use Rattle.std.specs.Prelude.{◌≡◌, ℕ, ◌<◌, ◌^◌, List, [], Result, Ok, IfOk}
 use Rattle.std.specs.List.{AllByRecursion}
-use Rattle.pp_desk.specs.declared.stop.Stop.{Stop}
-use Rattle.pp_model.specs.declared.loaded.Loaded.{Loaded}
-use Rattle.pp_model.specs.declared.profile.Profile.{Profile}
+use Rattle.pp_desk.specs.Words.{Stop}
+use Rattle.pp_model.specs.Words.{Loaded, Profile, Filtering, Finders, text_of, NoRuleFails}
 use Rattle.pp_model.specs.declared.report.Report.TheVariants as reports
-use Rattle.pp_model.specs.declared.filtering.Filtering.{Filtering}
-use Rattle.pp_model.specs.Finders.{Finders}
-use Rattle.pp_model.specs.Lookup.{text_of}
-use Rattle.pp_model.specs.Rules.{NoRuleFails}
 use Rattle.pp_pattern.specs.Report.{Finds}
 use Rattle.pp_tables.specs.Encode.{encode}
 use Rattle.pp_tables.specs.Read.{read}

@@ -1,7 +1,7 @@
 //! The patterns of a report.
 ghost use Rattle.std.specs.Prelude.{◌≡◌, IfOk};
-ghost use Rattle.pp_desk.specs.Went.{Went};
-ghost use Rattle.pp_model.specs.ReportFacts.{own_pattern};
+ghost use Rattle.pp_desk.specs.Words.{Went};
+ghost use Rattle.pp_model.specs.Words.{own_pattern};
 ghost use Rattle.pp_pattern.specs.Report.{AreVerdictsOf};
 ghost use Rattle.pp_report.specs.Patterns.{ask_patterns};
 

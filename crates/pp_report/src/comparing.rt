@@ -1,7 +1,7 @@
 //! The texts of the reports that compare a source with a base.
 ghost use Rattle.std.specs.Prelude.{◌≡◌, IfOk};
-ghost use Rattle.pp_model.specs.Finders.{Finders};
-ghost use Rattle.pp_units.specs.Head.{facts};
+ghost use Rattle.pp_model.specs.Words.{Finders};
+ghost use Rattle.pp_units.specs.Words.{facts};
 ghost use Rattle.pp_count.specs.Seeing.{HoldsFilters};
 ghost use Rattle.pp_graph.specs.Trim.{node_limit};
 ghost use Rattle.pp_compare.specs.Changes.{changes_text};

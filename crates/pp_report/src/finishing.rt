@@ -1,10 +1,9 @@
 //! The text of a report.
 ghost use Rattle.std.specs.Prelude.{◌≡◌, option_map};
-ghost use Rattle.pp_desk.specs.Went.{Went};
+ghost use Rattle.pp_desk.specs.Words.{Went};
 ghost use Rattle.pp_model.specs.declared.report.Report.TheVariants.{Proto};
-ghost use Rattle.pp_model.specs.Finders.{Finders};
-ghost use Rattle.pp_units.specs.Head.{facts};
-ghost use Rattle.pp_units.specs.Shown.{shown};
+ghost use Rattle.pp_model.specs.Words.{Finders};
+ghost use Rattle.pp_units.specs.Words.{facts, shown};
 ghost use Rattle.pp_count.specs.Seeing.{HoldsFilters};
 ghost use Rattle.pp_report.specs.Prepared.{showing, IsPrepared};
 ghost use Rattle.pp_report.specs.Reports.{finish, finish_by, text_by, list_text, answer_of_text, answer_of_outcome};

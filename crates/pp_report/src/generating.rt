@@ -1,9 +1,9 @@
 //! Reports.
 ghost use Rattle.std.specs.Prelude.{◌≡◌, ◌++◌, OnErr};
-ghost use Rattle.pp_base.specs.Front.{IsFront};
-ghost use Rattle.pp_desk.specs.Went.{Went};
+ghost use Rattle.pp_base.specs.Words.{IsFront};
+ghost use Rattle.pp_desk.specs.Words.{Went};
 ghost use Rattle.pp_model.specs.declared.report.Report.TheVariants.{Proto};
-ghost use Rattle.pp_model.specs.Sizes.{IsCountable};
+ghost use Rattle.pp_model.specs.Words.{IsCountable};
 ghost use Rattle.pp_report.specs.Prepared.{notes_of};
 ghost use Rattle.pp_report.specs.Tagged.{basis_of};
 ghost use Rattle.pp_report.specs.Reports.{report_script, reported, appended_text};

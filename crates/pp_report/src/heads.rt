@@ -1,7 +1,6 @@
 //! The head of a report.
 ghost use Rattle.std.specs.Prelude.{◌≡◌, IfOk, option_map, unwrap_or};
-ghost use Rattle.pp_units.specs.Head.{facts};
-ghost use Rattle.pp_units.specs.Shown.{Shown, shown, picked};
+ghost use Rattle.pp_units.specs.Words.{facts, Shown, shown, picked};
 ghost use Rattle.pp_report.specs.Heads.{first_file, kind_text, unit_text, head_of};
 
 use crate::shows::{kind_text, unit_text};

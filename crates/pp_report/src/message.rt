@@ -1,6 +1,6 @@
 //! The lines that tell why a report is not made.
 ghost use Rattle.std.specs.Prelude.{◌≡◌, ◌++◌, codes, IfOk};
-ghost use Rattle.pp_model.specs.ReportFacts.{option_name};
+ghost use Rattle.pp_model.specs.Words.{option_name};
 ghost use Rattle.pp_report.specs.Messages.{report_reason, report_refusal_line};
 
 use crate::ReportRefusal;

@@ -1,8 +1,7 @@
 //! What is settled before the text of a report is made.
 ghost use Rattle.std.specs.Prelude.{◌≡◌, IfOk};
-ghost use Rattle.pp_desk.specs.Went.{Went};
-ghost use Rattle.pp_model.specs.Conditions.{IsColumnOf};
-ghost use Rattle.pp_model.specs.Sizes.{IsCountable};
+ghost use Rattle.pp_desk.specs.Words.{Went};
+ghost use Rattle.pp_model.specs.Words.{IsColumnOf, IsCountable};
 ghost use Rattle.pp_report.specs.Notes.{notes_by};
 ghost use Rattle.pp_report.specs.Prepared.{prepare, prepare_counts, showing, answered, counts_settled, IsPrepared, AreCountsNoted};
 

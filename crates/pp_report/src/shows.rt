@@ -1,8 +1,8 @@
 //! What a report shows: its column of values, and the unit that is asked for.
 ghost use Rattle.std.specs.Prelude.{◌≡◌, ◌<◌, ◌^◌, length, IfOk, option_map};
 ghost use Rattle.std.specs.Result.{result_map_both};
-ghost use Rattle.pp_model.specs.Conditions.{IsColumnOf};
-ghost use Rattle.pp_units.specs.Shown.{shown};
+ghost use Rattle.pp_model.specs.Words.{IsColumnOf};
+ghost use Rattle.pp_units.specs.Words.{shown};
 ghost use Rattle.pp_count.specs.Column.{column_of};
 ghost use Rattle.pp_report.specs.Heads.{type_of_column, kind_text, unit_text, wanted_unit};
 ghost use Rattle.pp_report.specs.Prepared.{showing_for, in_column, in_unit, showing};

@@ -1,7 +1,7 @@
 //! The two forms of the tree report.
 ghost use Rattle.std.specs.Prelude.{◌≡◌, IfOk};
-ghost use Rattle.pp_model.specs.Finders.{Finders};
-ghost use Rattle.pp_units.specs.Head.{facts};
+ghost use Rattle.pp_model.specs.Words.{Finders};
+ghost use Rattle.pp_units.specs.Words.{facts};
 ghost use Rattle.pp_count.specs.Seeing.{HoldsFilters};
 ghost use Rattle.pp_calltree.specs.Text.{calltree_text};
 ghost use Rattle.pp_report.specs.Reports.{tree_report_text};

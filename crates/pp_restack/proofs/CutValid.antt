@@ -8,10 +8,7 @@ use Rattle.std.proofs.lemmas.Option.{none-some}
 use Rattle.std.proofs.lemmas.List.Elements.{recursion_from_All}
 use Rattle.std.proofs.lemmas.List.Sums.{AllPass-from_list_all}
 use Rattle.pp_base.proofs.Lists.{all_by}
-use Rattle.pp_model.specs.declared.profile.Location.{Location}
-use Rattle.pp_model.specs.declared.profile.Sample.{Sample}
-use Rattle.pp_model.specs.declared.profile.Profile.{Profile}
-use Rattle.pp_model.specs.Rules.{NoRuleFails, IsCompact, begins_empty, zero_unless, is_text, header_texts, label_has_texts, location_refers, stands_in}
+use Rattle.pp_model.specs.Words.{Location, Sample, Profile, NoRuleFails, IsCompact, begins_empty, zero_unless, is_text, header_texts, label_has_texts, location_refers, stands_in}
 use Rattle.pp_model.proofs.RuleLemmas.{passes}
 use Rattle.pp_model.proofs.FirstText.{no_fault, has_text, text_zero}
 use Rattle.pp_share.proofs.NumberedLemmas.{all_pass, nowhere, nonzero, unrepeated, stands_at}

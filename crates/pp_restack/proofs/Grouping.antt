@@ -2,7 +2,7 @@
 use Rattle.std.proofs.Common.{◌≡◌, ◌≢◌, ℕ, zero, suc, ◌+◌, ◌<◌, ◌≤◌, Bool, true, false, cond, List, [], ◌∷◌, length, get_or, take, drop, refl, sym, ap, subst, ◌∙◌, arith}
 use Rattle.std.specs.Prelude.{◌==◌}
 use Rattle.std.proofs.lemmas.Bool.{eq-eqb, ne_eqb}
-use Rattle.pp_model.specs.declared.frame.Frame.{Frame}
+use Rattle.pp_model.specs.Words.{Frame}
 use Rattle.pp_restack.specs.Stacks.{by_place, grouped_with}
 use Rattle.pp_restack.proofs.PlacesLemmas.{no_frame}
 

@@ -3,13 +3,7 @@ use Rattle.std.proofs.Common.{◌≡◌, ℕ, ◌-◌, ◌<◌, ◌^◌, List, [
 use Rattle.std.specs.List.{AllByRecursion}
 use Rattle.std.specs.Option.{option_map_or}
 use Rattle.std.proofs.lemmas.List.{append-nil}
-use Rattle.pp_model.specs.declared.frame.Frame.{Frame}
-use Rattle.pp_model.specs.declared.profile.Location.{Location}
-use Rattle.pp_model.specs.declared.profile.Sample.{Sample}
-use Rattle.pp_model.specs.declared.profile.Profile.{Profile}
-use Rattle.pp_model.specs.Conditions.{no_location}
-use Rattle.pp_model.specs.Lookup.{text_of}
-use Rattle.pp_model.specs.Rules.{NoRuleFails}
+use Rattle.pp_model.specs.Words.{Frame, Location, Sample, Profile, no_location, text_of, NoRuleFails}
 use Rattle.pp_model.proofs.CompactLemmas.{find_numbered}
 use Rattle.pp_model.proofs.FirstText.{text_zero}
 use Rattle.pp_share.specs.Described.{MappingText, mapping_text, location_found, nowhere, label_text, sample_text}

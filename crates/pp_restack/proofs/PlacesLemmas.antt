@@ -13,13 +13,7 @@ use Rattle.std.proofs.lemmas.List.Elements.{filter_map-append, recursion_from_Al
 use Rattle.std.proofs.lemmas.List.Sums.{AllPass-from_list_all}
 use Rattle.std.proofs.lemmas.Option.{none-some, slice_get_within, get_or_from_slice_get}
 use Rattle.pp_base.proofs.Lists.{all_push}
-use Rattle.pp_model.specs.declared.frame.Frame.{Frame}
-use Rattle.pp_model.specs.declared.profile.Line.{Line}
-use Rattle.pp_model.specs.declared.profile.Location.{Location}
-use Rattle.pp_model.specs.declared.profile.Profile.{Profile}
-use Rattle.pp_model.specs.Conditions.{no_location, location_at, IsFrameOf}
-use Rattle.pp_model.specs.Frames.{line_at}
-use Rattle.pp_model.specs.Rules.{NoRuleFails, AreNumbered, location_refers, is_zero_or_in, function_ids}
+use Rattle.pp_model.specs.Words.{Frame, Line, Location, Profile, no_location, location_at, IsFrameOf, line_at, NoRuleFails, AreNumbered, location_refers, is_zero_or_in, function_ids}
 use Rattle.pp_model.proofs.RuleLemmas.{passes}
 use Rattle.pp_share.proofs.NumberedLemmas.{all_pass}
 use Rattle.pp_restack.specs.Stacks.{lines_of_frames, cut_location}

@@ -1,14 +1,7 @@
 -- Locations that are cut, and the samples that name them. What places a stack or a line says by them what it added.
 use Rattle.std.specs.Prelude.{◌≡◌, ℕ, ◌-◌, ◌<◌, ◌≤◌, ℤ, pos, true, false, List, [], ◌∷◌, ◌++◌, length, map, slice_index_or}
 use Rattle.std.specs.List.{list_all, AllByRecursion}
-use Rattle.pp_model.specs.declared.profile.Label.{Label}
-use Rattle.pp_model.specs.declared.profile.Line.{Line}
-use Rattle.pp_model.specs.declared.profile.Location.{Location}
-use Rattle.pp_model.specs.declared.profile.Sample.{Sample}
-use Rattle.pp_model.specs.declared.profile.Profile.{Profile}
-use Rattle.pp_model.specs.Conditions.{no_location}
-use Rattle.pp_model.specs.Lookup.{text_of}
-use Rattle.pp_model.specs.Rules.{AreNumbered, location_refers, label_has_texts}
+use Rattle.pp_model.specs.Words.{Label, Line, Location, Sample, Profile, no_location, text_of, AreNumbered, location_refers, label_has_texts}
 use Rattle.pp_share.specs.Described.{LocationText, SampleText, function_found, mapping_found, location_text, label_text}
 use Rattle.pp_share.specs.Alike.{first_alike}
 use Rattle.pp_merge.specs.Merge.{all_mappings}

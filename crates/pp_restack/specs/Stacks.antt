@@ -1,12 +1,7 @@
 -- A profile made of stacks: the frames of a profile in groups, each group a location, and what such a profile says.
 use Rattle.std.specs.Prelude.{◌==◌, ℤ, List, [], ◌∷◌, filter, length, slice_get, if◌then◌else◌}
 use Rattle.std.specs.List.{filter_map}
-use Rattle.pp_model.specs.declared.frame.Frame.{Frame}
-use Rattle.pp_model.specs.declared.profile.Line.{Line}
-use Rattle.pp_model.specs.declared.profile.Location.{Location}
-use Rattle.pp_model.specs.declared.profile.Profile.{Profile}
-use Rattle.pp_model.specs.Conditions.{no_location, location_at}
-use Rattle.pp_model.specs.Frames.{line_at}
+use Rattle.pp_model.specs.Words.{Frame, Line, Location, Profile, no_location, location_at, line_at}
 use Rattle.pp_share.specs.Described.{LocationText, SampleText, function_found, mapping_found, location_text}
 use Rattle.pp_share.specs.Alike.{same_sample, first_alike}
 use Rattle.pp_share.specs.Sums.{summed, counts}

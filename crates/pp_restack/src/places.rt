@@ -1,9 +1,7 @@
 //! The locations of a profile of which lines may be cut.
 ghost use Rattle.std.specs.Prelude.{◌≡◌, ◌+◌, ◌<◌, [], ◌∷◌, ◌++◌, length, true, IfOk, IfSome, OnOk};
-ghost use Rattle.pp_base.specs.Front.{IsFront};
-ghost use Rattle.pp_model.specs.Conditions.{IsFrameOf, IsStackOf};
-ghost use Rattle.pp_model.specs.Frames.{line_at};
-ghost use Rattle.pp_model.specs.Rules.{NoRuleFails};
+ghost use Rattle.pp_base.specs.Words.{IsFront};
+ghost use Rattle.pp_model.specs.Words.{IsFrameOf, IsStackOf, line_at, NoRuleFails};
 ghost use Rattle.pp_restack.specs.Stacks.{lines_of_frames, cut_location};
 ghost use Rattle.pp_restack.specs.Places.{with_lines, without_id, line_location, KeepsPlaces, TakesPlace, IsEntry};
 

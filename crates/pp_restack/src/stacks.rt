@@ -1,8 +1,7 @@
 //! The stack of a sample as locations: the frames of one place are one location, with the lines of these frames.
 ghost use Rattle.std.specs.Prelude.{◌≡◌, ◌<◌, ◌≤◌, ◌∷◌, take, drop, length, map, OnOk};
-ghost use Rattle.pp_base.specs.Front.{IsFront};
-ghost use Rattle.pp_model.specs.Conditions.{IsStackOf};
-ghost use Rattle.pp_model.specs.Rules.{NoRuleFails};
+ghost use Rattle.pp_base.specs.Words.{IsFront};
+ghost use Rattle.pp_model.specs.Words.{IsStackOf, NoRuleFails};
 ghost use Rattle.pp_restack.specs.Stacks.{by_place, cut_location};
 ghost use Rattle.pp_restack.specs.Places.{KeepsPlaces, AppendsEntries};
 

@@ -1,9 +1,6 @@
 // Parts of pieces, counted one by one and joined, beside samples that are added up one by one.
 ghost use Rattle.std.specs.Prelude.{◌≡◌, ◌<◌, length, IfOk};
-ghost use Rattle.pp_model.specs.declared.profile.Profile.{Profile};
-ghost use Rattle.pp_model.specs.Conditions.{HasVerdicts};
-ghost use Rattle.pp_model.specs.Defaults.{defaults};
-ghost use Rattle.pp_model.specs.Sizes.{IsCountable};
+ghost use Rattle.pp_model.specs.Words.{Profile, HasVerdicts, defaults, IsCountable};
 ghost use Rattle.pp_count.specs.Counted.{CanCount};
 ghost use Rattle.pp_count.specs.Table.{IsKeyTable};
 

@@ -4,8 +4,8 @@ use Rattle.std.proofs.Math.ListN.{get_or-append}
 use Rattle.std.proofs.Math.Seq.{drop-append_seam, get_or-append_seam}
 use Rattle.std.proofs.lemmas.Bool.{cases_lt}
 use Rattle.std.proofs.lemmas.List.{drop-append-le, length-drop, take-append-le, take_all}
-use Rattle.pp_model.specs.declared.profile.Profile.{Profile}
-use Rattle.pp_grain.specs.declared.key.Key.{Key}
+use Rattle.pp_model.specs.Words.{Profile}
+use Rattle.pp_grain.specs.Words.{Key}
 use Rattle.pp_samples.specs.declared.frame_lines.FrameLines.{FrameLines}
 use Rattle.pp_samples.specs.declared.frame_lines.LinePlace.{LinePlace}
 use Rattle.pp_samples.specs.FrameLines.{bare_line, AreFrameLines, StandsAt}

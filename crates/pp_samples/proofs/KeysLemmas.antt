@@ -6,7 +6,7 @@ use Rattle.std.proofs.lemmas.List.{map-append, append-nil, length-append, get_or
 use Rattle.std.proofs.Math.Seq.{get_or-append_seam}
 use Rattle.std.proofs.lemmas.List.Elements.{filter-append}
 use Rattle.std.proofs.lemmas.Slice.Eq.{bytes_eq-Decides}
-use Rattle.pp_model.specs.FirstSight.{seen_with, distinct, place_of}
+use Rattle.pp_model.specs.Words.{seen_with, distinct, place_of}
 use Rattle.pp_model.proofs.FirstSightLemmas.{distinct_push}
 use Rattle.pp_samples.specs.declared.tag_table.TagTable.{TagTable}
 use Rattle.pp_samples.specs.declared.key_table.TagKeyTable.{TagKeyTable}

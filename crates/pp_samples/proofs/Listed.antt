@@ -17,9 +17,9 @@ use Rattle.std.proofs.lemmas.Simd.{map-map}
 use Rattle.pp_base.proofs.Booleans.{same_bool}
 use Rattle.pp_base.proofs.Orders.{both_equal}
 use Rattle.pp_base.proofs.Lists.{all_of_map}
-use Rattle.pp_units.specs.Shown.{Shown}
+use Rattle.pp_units.specs.Words.{Shown}
 use Rattle.pp_stack.proofs.ToldLemmas.{filter-map}
-use Rattle.pp_model.specs.FirstSight.{seen_with, seen_after, distinct, place_of}
+use Rattle.pp_model.specs.Words.{seen_with, seen_after, distinct, place_of}
 use Rattle.pp_model.proofs.FirstSightLemmas.{distinct_apart, distinct-map, all-seen_after}
 use Rattle.pp_count.specs.Sums.{Seen}
 use Rattle.pp_count.proofs.EachOnce.{each_once_is}

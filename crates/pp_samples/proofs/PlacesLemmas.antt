@@ -3,7 +3,7 @@ use Rattle.std.proofs.Common.{◌≡◌, ℕ, ◌+◌, ◌<◌, ◌≤◌, List,
 use Rattle.std.proofs.lemmas.Bool.{cases_lt, cases_eq}
 use Rattle.std.proofs.lemmas.List.{length-append, get_or-set_other, get_or-set_same, get_or_append_left, get_or_past}
 use Rattle.std.proofs.Math.Seq.{get_or-append_seam}
-use Rattle.pp_model.specs.FirstSight.{seen_with, place_of}
+use Rattle.pp_model.specs.Words.{seen_with, place_of}
 use Rattle.pp_samples.specs.declared.tag_table.TagSum.{TagSum}
 use Rattle.pp_samples.specs.declared.tag_table.TagTable.{TagTable}
 use Rattle.pp_samples.specs.declared.key_table.TagKeyTable.{TagKeyTable}

@@ -5,7 +5,7 @@ use Rattle.std.proofs.lemmas.Bool.{eq-eqb, ne_eqb, cases_lt, false_from_ne_true}
 use Rattle.std.proofs.lemmas.List.{length-append, length-set, get_or_append_left, get_or-set_other, get_or-set_same, get_or_past}
 use Rattle.std.proofs.lemmas.List.Folds.{position_or_len_push, list_any_at, Any-from_list_any}
 use Rattle.std.proofs.lemmas.List.Sums.{passes_at_first, prefix_len-le-length, fails_before_first}
-use Rattle.pp_model.specs.FirstSight.{seen_with, place_of}
+use Rattle.pp_model.specs.Words.{seen_with, place_of}
 use Rattle.pp_samples.specs.TagLines.{TagTexts, same_tag}
 use Rattle.pp_samples.proofs.TagNamesLemmas.{tag_decides}
 

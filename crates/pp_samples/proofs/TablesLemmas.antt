@@ -5,7 +5,7 @@ use Rattle.std.proofs.lemmas.List.{map-append, append-nil, get_or_past}
 use Rattle.std.proofs.Math.Seq.{get_or-append_seam}
 use Rattle.std.proofs.lemmas.List.Elements.{filter-append}
 use Rattle.std.proofs.lemmas.List.Sums.{fold-append}
-use Rattle.pp_model.specs.FirstSight.{seen_with, distinct, place_of}
+use Rattle.pp_model.specs.Words.{seen_with, distinct, place_of}
 use Rattle.pp_model.proofs.FirstSightLemmas.{distinct_push}
 use Rattle.pp_samples.specs.declared.tag_table.TagSum.{TagSum}
 use Rattle.pp_samples.specs.TagLines.{TagTexts, same_tag}

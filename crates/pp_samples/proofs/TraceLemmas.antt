@@ -3,14 +3,9 @@ use Rattle.std.proofs.Common.{◌≡◌, ℕ, ◌-◌, ◌≤◌, Bool, cond, Li
 use Rattle.std.specs.List.{flat_map}
 use Rattle.std.specs.Option.{option_map_or}
 use Rattle.std.proofs.lemmas.List.{take_all}
-use Rattle.pp_model.specs.declared.config.Config.{Config}
-use Rattle.pp_model.specs.declared.frame.Frame.{Frame}
-use Rattle.pp_model.specs.declared.profile.Sample.{Sample}
-use Rattle.pp_model.specs.declared.profile.Profile.{Profile}
-use Rattle.pp_model.specs.Finders.{Finders}
-use Rattle.pp_model.specs.FrameTexts.{Written}
+use Rattle.pp_model.specs.Words.{Config, Frame, Sample, Profile, Finders, Written}
 use Rattle.pp_stack.specs.Runs.{kept_if}
-use Rattle.pp_units.specs.Shown.{Shown}
+use Rattle.pp_units.specs.Words.{Shown}
 use Rattle.pp_count.specs.Counts.{samples_at, filtered_samples}
 use Rattle.pp_count.specs.Seeing.{filtered_from, filtered_stack, keys_of_stack}
 use Rattle.pp_count.proofs.Kept.{kept_samples}

@@ -5,7 +5,7 @@ use Rattle.std.proofs.Math.Seq.{take-add}
 use Rattle.std.proofs.lemmas.Grind.{flat_map-append}
 use Rattle.std.proofs.lemmas.List.{drop-drop}
 use Rattle.std.proofs.lemmas.List.Elements.{filter_map-append}
-use Rattle.pp_model.specs.Finders.{Finders}
+use Rattle.pp_model.specs.Words.{Finders}
 use Rattle.pp_steal.specs.declared.piece.TheConstants.{PIECE}
 use Rattle.pp_steal.specs.Pieces.{piece_of}
 use Rattle.pp_steal.specs.Running.{AreOutcomes}

@@ -1,8 +1,7 @@
 -- The comments report: one line for each comment of a profile.
 use Rattle.std.specs.Prelude.{ℕ, ℤ, List, ◌++◌, codes}
 use Rattle.std.specs.List.{flat_map}
-use Rattle.pp_model.specs.declared.profile.Profile.{Profile}
-use Rattle.pp_model.specs.Lookup.{text_of}
+use Rattle.pp_model.specs.Words.{Profile, text_of}
 
 -- the line of the comment with this text index
 abbrev pub comment_line : Profile → ℤ → List ℕ

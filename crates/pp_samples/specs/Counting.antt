@@ -1,8 +1,7 @@
 -- What is known of the tags that were counted so far. No public clause cites it.
 use Rattle.std.specs.Prelude.{◌≡◌, Some}
 use Rattle.indexmap.specs.IndexMap.{get}
-use Rattle.pp_model.specs.declared.profile.Label.{Label}
-use Rattle.pp_model.specs.declared.profile.Profile.{Profile}
+use Rattle.pp_model.specs.Words.{Label, Profile}
 use Rattle.pp_samples.specs.declared.key_table.TagPlace.{TagPlace}
 use Rattle.pp_samples.specs.declared.tag_counts.TagCounts.{TagCounts}
 use Rattle.pp_samples.specs.Labels.{same_label_parts}

@@ -1,7 +1,7 @@
 -- The lines of frames that nothing stands in front of, as the code holds them. No public clause cites it.
 use Rattle.std.specs.Prelude.{◌≡◌, ℕ, ◌+◌, ◌<◌, ◌≤◌, List, [], length, take, drop, slice_index_or}
-use Rattle.pp_model.specs.declared.profile.Profile.{Profile}
-use Rattle.pp_grain.specs.declared.key.Key.{Key}
+use Rattle.pp_model.specs.Words.{Profile}
+use Rattle.pp_grain.specs.Words.{Key}
 use Rattle.pp_count.specs.Table.{written_key}
 use Rattle.pp_samples.specs.declared.frame_lines.FrameLines.{FrameLines}
 use Rattle.pp_samples.specs.declared.frame_lines.LinePlace.{LinePlace}

@@ -1,7 +1,7 @@
 -- When labels are the same. No public clause cites it.
 use Rattle.std.specs.Prelude.{Bool, ◌&&◌}
 use Rattle.std.specs.Ordering.{int_eq}
-use Rattle.pp_model.specs.declared.profile.Label.{Label}
+use Rattle.pp_model.specs.Words.{Label}
 
 -- the labels have the same parts
 abbrev pub same_label_parts : Label → Label → Bool

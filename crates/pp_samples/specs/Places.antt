@@ -1,6 +1,6 @@
 -- The places of tags in the tables of keys. No public clause cites them.
 use Rattle.std.specs.Prelude.{◌≡◌, ℕ, ◌<◌, List, All, length, slice_index_or, slice_set}
-use Rattle.pp_model.specs.FirstSight.{seen_with, place_of}
+use Rattle.pp_model.specs.Words.{seen_with, place_of}
 use Rattle.pp_samples.specs.declared.tag_table.TagTable.{TagTable}
 use Rattle.pp_samples.specs.declared.key_table.TagKeyTable.{TagKeyTable}
 use Rattle.pp_samples.specs.declared.key_table.TagPlace.{TagPlace}

@@ -2,8 +2,8 @@
 use Rattle.std.specs.Prelude.{◌≡◌, ℕ, ◌<◌, nat_abs, List, [], length, map, slice_index_or}
 use Rattle.std.specs.Ordering.{nat_cmp, ordering_then}
 use Rattle.std.specs.declared.cmp.Ordering.{Ordering}
-use Rattle.pp_units.specs.Shown.{Shown}
-use Rattle.pp_model.specs.FirstSight.{distinct, place_of}
+use Rattle.pp_units.specs.Words.{Shown}
+use Rattle.pp_model.specs.Words.{distinct, place_of}
 use Rattle.pp_count.specs.Sums.{Seen}
 use Rattle.pp_samples.specs.declared.tag_table.TagSum.{TagSum}
 use Rattle.pp_samples.specs.declared.tag_table.TagTable.{TagTable}

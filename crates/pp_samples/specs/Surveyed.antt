@@ -1,7 +1,5 @@
 -- The samples of a tags report. No public clause cites it.
-use Rattle.pp_model.specs.declared.profile.Sample.{Sample}
-use Rattle.pp_model.specs.declared.profile.Profile.{Profile}
-use Rattle.pp_model.specs.Finders.{Finders}
+use Rattle.pp_model.specs.Words.{Sample, Profile, Finders}
 use Rattle.pp_count.specs.declared.survey.Survey.{Survey}
 use Rattle.pp_count.specs.Seeing.{HoldsFilters}
 use Rattle.pp_count.specs.Sums.{Seen}

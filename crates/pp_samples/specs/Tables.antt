@@ -1,9 +1,7 @@
 -- Tables of tags with their sums, by what was added to them. No public clause cites them.
 use Rattle.std.specs.Prelude.{◌≡◌, ℕ, ◌+◌, ◌<◌, ◌≤◌, ◌==◌, ℤ, pos, ◌+ℤ◌, nat_abs, ◌^◌, Bool, List, [], ◌∷◌, ◌++◌, length, map, fold, slice_index_or, slice_set, if◌then◌else◌}
 use Rattle.std.specs.List.{filter}
-use Rattle.pp_model.specs.declared.profile.Label.{Label}
-use Rattle.pp_model.specs.declared.profile.Profile.{Profile}
-use Rattle.pp_model.specs.FirstSight.{distinct, place_of}
+use Rattle.pp_model.specs.Words.{Label, Profile, distinct, place_of}
 use Rattle.pp_count.specs.Sums.{Seen}
 use Rattle.pp_samples.specs.declared.tag_table.TagSum.{TagSum}
 use Rattle.pp_samples.specs.declared.tag_table.TagTable.{TagTable}

@@ -5,16 +5,8 @@ use Rattle.std.specs.Bool.{beq}
 use Rattle.std.specs.Ordering.{nat_cmp, int_cmp, int_eq, bool_cmp, then_cmp, on}
 use Rattle.std.specs.Cmp.Lexicographic.{slice_cmp}
 use Rattle.std.specs.declared.cmp.Ordering.{Ordering}
-use Rattle.pp_model.specs.declared.config.Config.{Config}
-use Rattle.pp_model.specs.declared.profile.Label.{Label}
-use Rattle.pp_model.specs.declared.profile.Sample.{Sample}
-use Rattle.pp_model.specs.declared.profile.Profile.{Profile}
-use Rattle.pp_model.specs.declared.presentation.Presentation.{Presentation}
-use Rattle.pp_model.specs.Finders.{Finders}
-use Rattle.pp_units.specs.Shown.{Shown}
-use Rattle.pp_units.specs.Numbers.{value_text, percent_text}
-use Rattle.pp_units.specs.Rows.{value_column}
-use Rattle.pp_units.specs.Head.{Facts}
+use Rattle.pp_model.specs.Words.{Config, Label, Sample, Profile, Presentation, Finders}
+use Rattle.pp_units.specs.Words.{Shown, value_text, percent_text, value_column, Facts}
 use Rattle.pp_tags.specs.Labels.{has_text, key_text, label_value_text as label_text, number_unit}
 use Rattle.pp_tags.specs.TagFilters.{shown_labels}
 use Rattle.pp_count.specs.Column.{selected}

@@ -2,19 +2,11 @@
 use Rattle.std.specs.Prelude.{ℕ, ℤ, nat_abs, List, [], ◌∷◌, ◌++◌, codes, replicate, if◌then◌else◌, Option}
 use Rattle.std.specs.List.{flat_map}
 use Rattle.std.specs.Option.{option_map_or}
-use Rattle.pp_model.specs.declared.config.Config.{Config}
-use Rattle.pp_model.specs.declared.profile.Label.{Label}
-use Rattle.pp_model.specs.declared.profile.Sample.{Sample}
-use Rattle.pp_model.specs.declared.profile.Profile.{Profile}
-use Rattle.pp_model.specs.declared.presentation.Presentation.{Presentation}
-use Rattle.pp_model.specs.Finders.{Finders}
-use Rattle.pp_model.specs.FrameTexts.{Written}
-use Rattle.pp_units.specs.Shown.{Shown, picked}
-use Rattle.pp_units.specs.Numbers.{value_text, right_text}
-use Rattle.pp_units.specs.Head.{Facts, facts_text}
+use Rattle.pp_model.specs.Words.{Config, Label, Sample, Profile, Presentation, Finders, Written}
+use Rattle.pp_units.specs.Words.{Shown, picked, value_text, right_text, Facts, facts_text}
 use Rattle.pp_tags.specs.Labels.{has_text, key_text, label_value_text as label_text, number_unit}
 use Rattle.pp_tags.specs.TagFilters.{shown_labels}
-use Rattle.pp_grain.specs.Naming.{name_text}
+use Rattle.pp_grain.specs.Words.{name_text}
 use Rattle.pp_count.specs.Column.{selected}
 use Rattle.pp_count.specs.Seeing.{filtered_stack, keys_of_stack}
 

@@ -1,11 +1,8 @@
 -- What the samples of a traces report are written by. No public clause cites it.
 use Rattle.std.specs.Prelude.{◌≡◌, ℕ, ◌<◌, List, length}
 use Rattle.std.specs.List.{flat_map}
-use Rattle.pp_model.specs.declared.profile.Sample.{Sample}
-use Rattle.pp_model.specs.declared.profile.Profile.{Profile}
-use Rattle.pp_model.specs.Finders.{Finders}
-use Rattle.pp_model.specs.FrameTexts.{Written}
-use Rattle.pp_units.specs.Shown.{shown}
+use Rattle.pp_model.specs.Words.{Sample, Profile, Finders, Written}
+use Rattle.pp_units.specs.Words.{shown}
 use Rattle.pp_count.specs.Scope.{config_of}
 use Rattle.pp_count.specs.Seeing.{HoldsFilters}
 use Rattle.pp_count.specs.Table.{written_key}

@@ -1,6 +1,6 @@
 //! The lines of frames, made once and shared by all lanes.
 ghost use Rattle.std.specs.Prelude.{◌≡◌, ◌++◌, [], ◌∷◌, length, All, IfOk};
-ghost use Rattle.pp_grain.specs.Keys.{IsKeyOf, key_written};
+ghost use Rattle.pp_grain.specs.Words.{IsKeyOf, key_written};
 ghost use Rattle.pp_samples.specs.Traces.{frame_line};
 ghost use Rattle.pp_samples.specs.FrameLines.{AreFrameLines};
 

@@ -1,8 +1,7 @@
 //! The lines of labels.
 ghost use Rattle.std.specs.Prelude.{◌≡◌, ◌++◌, IfOk};
 ghost use Rattle.std.specs.List.{flat_map};
-ghost use Rattle.pp_model.specs.Conditions.{IsSampleOf};
-ghost use Rattle.pp_model.specs.Finders.{Finders, HoldsFinders};
+ghost use Rattle.pp_model.specs.Words.{IsSampleOf, Finders, HoldsFinders};
 ghost use Rattle.pp_tags.specs.TagFilters.{shown_labels};
 ghost use Rattle.pp_samples.specs.Traces.{trace_label_line, trace_label_value, own_value};
 

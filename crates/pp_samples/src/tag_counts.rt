@@ -1,9 +1,7 @@
 //! The tags of a report's samples, with their sums.
 ghost use Rattle.std.specs.Prelude.{◌≡◌, [], ◌∷◌, ◌++◌, map, List as Seq, IfOk, OnOk};
 ghost use Rattle.indexmap.specs.IndexMap.{get};
-ghost use Rattle.pp_model.specs.declared.profile.Profile.{Profile as Tables};
-ghost use Rattle.pp_model.specs.Conditions.{IsSampleOf};
-ghost use Rattle.pp_model.specs.Finders.{Finders};
+ghost use Rattle.pp_model.specs.Words.{Profile as Tables, IsSampleOf, Finders};
 ghost use Rattle.pp_count.specs.Counts.{samples_at};
 ghost use Rattle.pp_samples.specs.Tables.{Event, AreKeys, AreSmall, label_event, sample_events, events_from};
 ghost use Rattle.pp_samples.specs.Places.{AreEven};

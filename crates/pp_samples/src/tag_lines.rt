@@ -1,11 +1,8 @@
 //! The tags report.
 ghost use Rattle.std.specs.Prelude.{◌≡◌, ◌<◌, [], ◌++◌, List, All, codes, length, map, get_or, IfOk, OnOk, OnErr};
 ghost use Rattle.std.specs.List.{flat_map};
-ghost use Rattle.pp_model.specs.Finders.{Finders};
-ghost use Rattle.pp_units.specs.Shown.{shown};
-ghost use Rattle.pp_units.specs.Numbers.{percent_text};
-ghost use Rattle.pp_units.specs.Rows.{value_column};
-ghost use Rattle.pp_units.specs.Head.{facts};
+ghost use Rattle.pp_model.specs.Words.{Finders};
+ghost use Rattle.pp_units.specs.Words.{shown, percent_text, value_column, facts};
 ghost use Rattle.pp_count.specs.Seeing.{HoldsFilters};
 ghost use Rattle.pp_count.specs.Sums.{Seen};
 ghost use Rattle.pp_samples.specs.Names.{name_texts};

@@ -1,6 +1,6 @@
 //! Tags in order of first sight, with the sums over the samples that have them.
 ghost use Rattle.std.specs.Prelude.{◌≡◌, ◌<◌, List, [], ◌∷◌, ◌++◌, length, slice_index_or, IfOk, OnOk};
-ghost use Rattle.pp_model.specs.FirstSight.{seen_with, place_of};
+ghost use Rattle.pp_model.specs.Words.{seen_with, place_of};
 ghost use Rattle.pp_samples.specs.TagLines.{same_tag};
 ghost use Rattle.pp_samples.specs.Names.{name_texts};
 ghost use Rattle.pp_samples.specs.Tables.{Event, credited_event, no_tag_sum, Padded, Credits, IsTableOf, AreSmall, Fits};

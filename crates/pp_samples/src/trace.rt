@@ -1,11 +1,9 @@
 //! The lines of samples in the traces report.
 ghost use Rattle.std.specs.Prelude.{◌≡◌, ◌++◌, [], map, All, IfOk, IfSome};
 ghost use Rattle.std.specs.List.{flat_map};
-ghost use Rattle.pp_model.specs.Conditions.{IsSampleOf, RefersTo};
-ghost use Rattle.pp_model.specs.Finders.{Finders};
-ghost use Rattle.pp_units.specs.Shown.{shown};
-ghost use Rattle.pp_units.specs.Numbers.{value_text};
-ghost use Rattle.pp_grain.specs.Keys.{key_written, IsKeyOf};
+ghost use Rattle.pp_model.specs.Words.{IsSampleOf, RefersTo, Finders};
+ghost use Rattle.pp_units.specs.Words.{shown, value_text};
+ghost use Rattle.pp_grain.specs.Words.{key_written, IsKeyOf};
 ghost use Rattle.pp_count.specs.Column.{selected};
 ghost use Rattle.pp_count.specs.Counts.{samples_at};
 ghost use Rattle.pp_samples.specs.Traces.{trace_separator, frame_line, trace_text};

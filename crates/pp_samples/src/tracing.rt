@@ -1,7 +1,7 @@
 //! The lines of all samples of a traces report, in waves of pieces on the lanes.
 ghost use Rattle.std.specs.Prelude.{◌≡◌, ◌++◌, ◌+◌, ◌*◌, ◌<◌, ◌^◌, length, take, drop, IfOk};
 ghost use Rattle.pp_steal.specs.declared.piece.TheConstants.{PIECE};
-ghost use Rattle.pp_model.specs.Finders.{Finders};
+ghost use Rattle.pp_model.specs.Words.{Finders};
 ghost use Rattle.pp_samples.specs.Tracing.{FindsInTraces, traces_text_at};
 
 use crate::subject::Traces;

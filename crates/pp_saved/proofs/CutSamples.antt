@@ -3,15 +3,10 @@ use Rattle.std.proofs.Common.{◌≡◌, ℤ, List, length, subst}
 use Rattle.std.specs.Prelude.{Option, Some, None, option_map}
 use Rattle.std.specs.List.{AllByRecursion}
 use Rattle.std.proofs.lemmas.Option.{none-some, same_Some}
-use Rattle.pp_model.specs.declared.frame.Frame.{Frame}
-use Rattle.pp_model.specs.declared.profile.Sample.{Sample}
-use Rattle.pp_model.specs.declared.profile.Profile.{Profile}
-use Rattle.pp_model.specs.declared.filtering.Filtering.{Filtering}
-use Rattle.pp_model.specs.Finders.{Finders}
+use Rattle.pp_model.specs.Words.{Frame, Sample, Profile, Filtering, Finders, distinct}
 use Rattle.pp_count.specs.Seeing.{filtered_stack}
 use Rattle.pp_share.specs.Alike.{same_sample, same_location}
 use Rattle.pp_share.specs.Described.{LocationText, SampleText}
-use Rattle.pp_model.specs.FirstSight.{distinct}
 use Rattle.pp_share.specs.Sums.{counts, keys_of, rows_of, summed, sum_of}
 use Rattle.pp_share.specs.Written.{Contents, locations}
 use Rattle.pp_share.proofs.NumberedLemmas.{all_mapped}

@@ -7,14 +7,7 @@ use Rattle.std.specs.Ordering.{int_eq}
 use Rattle.std.proofs.lemmas.Bool.{eqb-true}
 use Rattle.std.proofs.lemmas.List.Elements.{recursion_from_All}
 use Rattle.std.proofs.lemmas.Simd.{map-map}
-use Rattle.pp_model.specs.declared.config.Config.{Config}
-use Rattle.pp_model.specs.declared.frame.Frame.{Frame}
-use Rattle.pp_model.specs.declared.profile.Sample.{Sample}
-use Rattle.pp_model.specs.declared.profile.Profile.{Profile}
-use Rattle.pp_model.specs.Finders.{Finders, no_finders}
-use Rattle.pp_model.specs.FrameTexts.{Written}
-use Rattle.pp_model.specs.Rules.{NoRuleFails}
-use Rattle.pp_model.specs.Sizes.{value_in}
+use Rattle.pp_model.specs.Words.{Config, Frame, Sample, Profile, Finders, no_finders, Written, NoRuleFails, value_in}
 use Rattle.pp_model.proofs.RuleLemmas.{passes}
 use Rattle.pp_count.specs.Seeing.{filtered_stack, framed_with, framed_samples}
 use Rattle.pp_count.specs.Sums.{Seen, weighed, sum_where}

@@ -1,15 +1,10 @@
 -- The texts of top, tree, peek and table follow from the figures of their reports.
 use Rattle.std.proofs.Common.{◌≡◌, ℕ, ℤ, pos, Bool, true, not, List, ◌++◌, length, map, Option, refl, ap, ◌∙◌}
 use Rattle.std.specs.List.{filter}
-use Rattle.pp_model.specs.declared.config.Config.{Config}
-use Rattle.pp_model.specs.declared.presentation.Sort.{Sort}
+use Rattle.pp_model.specs.Words.{Config, Sort, Profile, Finders, Written}
 use Rattle.pp_model.specs.declared.presentation.Sort.TheVariants as sorts
-use Rattle.pp_model.specs.declared.profile.Profile.{Profile}
-use Rattle.pp_model.specs.Finders.{Finders}
-use Rattle.pp_model.specs.FrameTexts.{Written}
-use Rattle.pp_units.specs.Head.{Facts, facts_text}
-use Rattle.pp_units.specs.Rows.{showing_line, heading}
-use Rattle.pp_grain.specs.Keys.{key_cmp}
+use Rattle.pp_units.specs.Words.{Facts, facts_text, showing_line, heading}
+use Rattle.pp_grain.specs.Words.{key_cmp}
 use Rattle.pp_grain.proofs.CallerLemmas.{key_cmp_total, key_cmp_ties}
 use Rattle.pp_count.specs.Sums.{Seen, has, all_keys}
 use Rattle.pp_count.specs.Counted.{report_samples}

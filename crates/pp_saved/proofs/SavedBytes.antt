@@ -7,23 +7,11 @@ use Rattle.std.specs.Option.{MatchOption}
 use Rattle.std.specs.Str.Parse.{digits_value}
 use Rattle.std.proofs.lemmas.Bool.{ltb-true, eqb-false}
 use Rattle.std.proofs.lemmas.Option.{none-some, same_Some}
-use Rattle.pp_base.specs.FileMap.{FileMap}
-use Rattle.pp_base.specs.Judges.{Answer}
-use Rattle.pp_desk.specs.Asking.{go_on}
-use Rattle.pp_desk.specs.Script.{Give, Script}
-use Rattle.pp_model.specs.declared.config.Config.{Config}
-use Rattle.pp_model.specs.declared.loaded.Loaded.{Loaded}
-use Rattle.pp_model.specs.declared.profile.Profile.{Profile}
-use Rattle.pp_model.specs.declared.report.BaseKind.{BaseKind}
-use Rattle.pp_model.specs.declared.report.Report.{Report}
+use Rattle.pp_base.specs.Words.{FileMap, Answer}
+use Rattle.pp_desk.specs.Words.{go_on, Give, Script}
+use Rattle.pp_model.specs.Words.{Config, Loaded, Profile, BaseKind, Report, Presentation, IsColumnOf, text_of, is_counted, NoRuleFails, IsCountable}
 use Rattle.pp_model.specs.declared.report.Report.TheVariants as reports
-use Rattle.pp_model.specs.declared.presentation.Presentation.{Presentation}
-use Rattle.pp_model.specs.Conditions.{IsColumnOf}
-use Rattle.pp_model.specs.Lookup.{text_of}
-use Rattle.pp_model.specs.ReportFacts.{is_counted}
-use Rattle.pp_model.specs.Rules.{NoRuleFails}
-use Rattle.pp_model.specs.Sizes.{IsCountable}
-use Rattle.pp_units.specs.Shown.{Shown}
+use Rattle.pp_units.specs.Words.{Shown}
 use Rattle.pp_count.specs.Matches.{matches_of}
 use Rattle.pp_pattern.specs.Report.{Finds}
 use Rattle.pp_tables.specs.Encode.{encode}

@@ -3,15 +3,9 @@ use Rattle.std.proofs.Common.{◌≡◌, ℕ, Bool, true, false, List, [], ◌�
 use Rattle.std.specs.Prelude.{Option, Some, None, option_map, slice_get, find, ◌==◌, if◌then◌else◌}
 use Rattle.std.specs.List.{AllByRecursion, filter_map, cons_option, list_any}
 use Rattle.std.specs.Option.{option_and_then, option_map_or, option_to_list}
-use Rattle.pp_model.specs.declared.frame.Frame.{Frame}
-use Rattle.pp_model.specs.declared.profile.Mapping.{Mapping}
-use Rattle.pp_model.specs.declared.profile.Profile.{Profile}
-use Rattle.pp_model.specs.declared.filtering.Filtering.{Filtering}
-use Rattle.pp_model.specs.Finders.{Finders}
-use Rattle.pp_model.specs.Lookup.{text_of}
+use Rattle.pp_model.specs.Words.{Frame, Mapping, Profile, Filtering, Finders, text_of, distinct, seen_after}
 use Rattle.pp_share.specs.Alike.{equal_mapping, first_alike}
 use Rattle.pp_share.specs.Described.{MappingText, LocationText, mapping_text}
-use Rattle.pp_model.specs.FirstSight.{distinct, seen_after}
 use Rattle.pp_share.specs.Header.{HeaderText, header_of}
 use Rattle.pp_merge.specs.Merge.{all_mappings, merged}
 use Rattle.pp_share.specs.Written.{Contents, written, written_mapping, mappings, locations}

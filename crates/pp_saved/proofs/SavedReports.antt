@@ -3,18 +3,10 @@ use Rattle.std.proofs.Common.{◌≡◌, ℕ, Bool, true, false, List, [], refl,
 use Rattle.std.specs.Prelude.{Option, Ok, Err, option_map, if◌then◌else◌, unwrap_or}
 use Rattle.std.specs.Option.{option_map_or}
 use Rattle.std.proofs.lemmas.Bool.{false≢true}
-use Rattle.pp_desk.specs.Script.{Give}
-use Rattle.pp_model.specs.declared.config.Config.{Config}
-use Rattle.pp_model.specs.declared.loaded.Loaded.{Loaded}
-use Rattle.pp_model.specs.declared.profile.Profile.{Profile}
-use Rattle.pp_model.specs.declared.report.BaseKind.{BaseKind}
-use Rattle.pp_model.specs.declared.report.Report.{Report}
+use Rattle.pp_desk.specs.Words.{Give}
+use Rattle.pp_model.specs.Words.{Config, Loaded, Profile, BaseKind, Report, Presentation, IsColumnOf, Finders, is_counted, own_pattern}
 use Rattle.pp_model.specs.declared.report.Report.TheVariants as reports
-use Rattle.pp_model.specs.declared.presentation.Presentation.{Presentation}
-use Rattle.pp_model.specs.Conditions.{IsColumnOf}
-use Rattle.pp_model.specs.Finders.{Finders}
-use Rattle.pp_units.specs.Head.{Facts}
-use Rattle.pp_units.specs.Shown.{Shown, picked}
+use Rattle.pp_units.specs.Words.{Facts, Shown, picked}
 use Rattle.pp_pattern.specs.Report.{Finds, finders_of}
 use Rattle.pp_share.specs.Header.{TypeText}
 use Rattle.pp_count.specs.Counted.{has_own_match}
@@ -29,7 +21,6 @@ use Rattle.pp_dump.specs.Saved.{saved}
 use Rattle.pp_report.specs.declared.refusal.ReportRefusal.TheVariants.{NoMatch}
 use Rattle.pp_report.specs.declared.texts.TheConstants.{TREE_NODES}
 use Rattle.pp_report.specs.Heads.{report_head, unit_text}
-use Rattle.pp_model.specs.ReportFacts.{is_counted, own_pattern}
 use Rattle.pp_report.specs.Patterns.{report_finders}
 use Rattle.pp_stack.specs.LoadFinders.{finder_by}
 use Rattle.pp_report.specs.Prepared.{Showing, showing_for}

@@ -7,14 +7,7 @@ use Rattle.std.proofs.lemmas.List.Elements.{All-contains, All-weaker, All-from_r
 use Rattle.std.proofs.lemmas.List.Sums.{sum_by-cons}
 use Rattle.std.proofs.lemmas.Option.{none-some, same_Some}
 use Rattle.pp_base.proofs.Lists.{all_by}
-use Rattle.pp_model.specs.declared.config.Config.{Config}
-use Rattle.pp_model.specs.declared.frame.Frame.{Frame}
-use Rattle.pp_model.specs.declared.profile.Sample.{Sample}
-use Rattle.pp_model.specs.declared.profile.Profile.{Profile}
-use Rattle.pp_model.specs.declared.filtering.Filtering.{Filtering}
-use Rattle.pp_model.specs.Finders.{Finders}
-use Rattle.pp_model.specs.Lookup.{text_of}
-use Rattle.pp_model.specs.FrameTexts.{Written}
+use Rattle.pp_model.specs.Words.{Config, Frame, Sample, Profile, Filtering, Finders, text_of, Written}
 use Rattle.pp_tags.specs.TagFilters.{is_shown, shown_labels}
 use Rattle.pp_tags.specs.Labels.{key_text}
 use Rattle.pp_count.specs.Seeing.{filtered_stack, seen_with, seen_samples}

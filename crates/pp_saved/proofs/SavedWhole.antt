@@ -6,16 +6,7 @@ use Rattle.std.specs.Option.{option_map_or}
 use Rattle.std.proofs.lemmas.List.{length-map}
 use Rattle.std.proofs.lemmas.List.Elements.{All-tail, recursion_from_All}
 use Rattle.std.proofs.lemmas.Simd.{map-map}
-use Rattle.pp_model.specs.declared.frame.Frame.{Frame}
-use Rattle.pp_model.specs.declared.profile.Location.{Location}
-use Rattle.pp_model.specs.declared.profile.Profile.{Profile}
-use Rattle.pp_model.specs.declared.profile.Sample.{Sample}
-use Rattle.pp_model.specs.Conditions.{no_location, location_at, RefersTo}
-use Rattle.pp_model.specs.Finders.{no_finders}
-use Rattle.pp_model.specs.Frames.{stack_of}
-use Rattle.pp_model.specs.Lookup.{text_of, location_with}
-use Rattle.pp_model.specs.Rules.{AreNumbered, IsCompact, location_ids}
-use Rattle.pp_model.specs.Defaults.{standard_filtering}
+use Rattle.pp_model.specs.Words.{Frame, Location, Profile, Sample, no_location, location_at, RefersTo, no_finders, stack_of, text_of, location_with, AreNumbered, IsCompact, location_ids, standard_filtering}
 use Rattle.pp_model.proofs.CompactLemmas.{find_numbered, one_le_id, place_within}
 use Rattle.pp_model.proofs.RuleLemmas.{refers_from_valid, sample_at}
 use Rattle.pp_count.specs.Seeing.{filtered_stack}

@@ -1,10 +1,7 @@
 -- What holds of the saved profile of a profile that stays as it is when it is merged alone.
 use Rattle.std.proofs.Common.{◌≡◌, ◌<◌, ◌^◌, [], ◌∷◌, map, sym, ap, subst, append-nil}
 use Rattle.std.specs.List.{AllByRecursion}
-use Rattle.pp_model.specs.declared.config.Config.{Config}
-use Rattle.pp_model.specs.declared.profile.Profile.{Profile}
-use Rattle.pp_model.specs.Finders.{Finders, no_finders}
-use Rattle.pp_model.specs.Rules.{NoRuleFails}
+use Rattle.pp_model.specs.Words.{Config, Profile, Finders, no_finders, NoRuleFails}
 use Rattle.pp_share.specs.Described.{MappingText, mapping_text}
 use Rattle.pp_share.specs.Header.{header_of}
 use Rattle.pp_merge.specs.Merge.{all_mappings, merged}

@@ -11,14 +11,9 @@ use Rattle.std.proofs.lemmas.Map.Keys.{IsDistinct-cons, IsDistinct-head, IsDisti
 use Rattle.std.proofs.lemmas.Map.Made.{IsDistinct-keys_filter}
 use Rattle.std.proofs.lemmas.Option.{none-some, same_Some}
 use Rattle.pp_base.proofs.Lists.{all_by}
-use Rattle.pp_model.specs.declared.frame.Frame.{Frame}
-use Rattle.pp_model.specs.declared.profile.Mapping.{Mapping}
-use Rattle.pp_model.specs.declared.profile.Profile.{Profile}
-use Rattle.pp_model.specs.declared.filtering.Filtering.{Filtering}
-use Rattle.pp_model.specs.Finders.{Finders}
+use Rattle.pp_model.specs.Words.{Frame, Mapping, Profile, Filtering, Finders, distinct}
 use Rattle.pp_share.specs.Alike.{same_mapping, equal_mapping, same_sample}
 use Rattle.pp_share.specs.Described.{MappingText, LocationText, SampleText, mapping_text, mapping_found}
-use Rattle.pp_model.specs.FirstSight.{distinct}
 use Rattle.pp_share.specs.Header.{type_text}
 use Rattle.pp_merge.specs.Merge.{all_mappings, contents, merged}
 use Rattle.pp_merge.specs.Settled.{IsSettled}

@@ -1,26 +1,15 @@
 -- What a report comes to where the matcher refuses no pattern: what it comes to once its patterns are known.
 use Rattle.std.proofs.Common.{◌≡◌, ℕ, Bool, true, List, [], ◌∷◌, ◌++◌, refl, sym, ap, ◌∙◌, subst}
 use Rattle.std.specs.Prelude.{Option, Some, None, Ok, Err, unwrap_or}
-use Rattle.pp_base.specs.FileMap.{FileMap}
-use Rattle.pp_base.specs.Judges.{Answer}
-use Rattle.pp_desk.specs.declared.input_line.InputLine.{InputLine}
-use Rattle.pp_desk.specs.Asking.{Asking, go_on}
+use Rattle.pp_base.specs.Words.{FileMap, Answer}
+use Rattle.pp_desk.specs.Words.{InputLine, Asking, go_on, course, Script, Give, Make, WriteOut, WriteErr, ReadFile, WriteFile, Ask, NextLine, ◌>>=◌}
 use Rattle.pp_desk.specs.Asking as asking
-use Rattle.pp_desk.specs.Course.{course}
-use Rattle.pp_desk.specs.Script.{Script, Give, Make, WriteOut, WriteErr, ReadFile, WriteFile, Ask, NextLine, ◌>>=◌}
-use Rattle.pp_model.specs.declared.loaded.Loaded.{Loaded}
-use Rattle.pp_model.specs.declared.profile.Profile.{Profile}
-use Rattle.pp_model.specs.declared.report.Report.{Report}
-use Rattle.pp_model.specs.declared.verdicts.Slot.{Slot}
-use Rattle.pp_model.specs.declared.verdicts.Tag.{Tag}
-use Rattle.pp_model.specs.declared.verdicts.Verdicts.{Verdicts}
-use Rattle.pp_model.specs.declared.filtering.Filtering.{Filtering}
+use Rattle.pp_model.specs.Words.{Loaded, Profile, Report, Slot, Tag, Verdicts, Filtering, own_pattern}
 use Rattle.pp_pattern.specs.Patterns.{judge_pattern, judge_option, judge_part, judge_parts}
 use Rattle.pp_pattern.specs.Report.{Finds, judge_frames, judge_filter, judge_tags, judge_names, judge_with, judge}
 use Rattle.pp_tags.specs.declared.tag_filter.TagFilter.{TagFilter}
 use Rattle.pp_tags.specs.TagFilters.{subjects}
 use Rattle.pp_report.specs.declared.refusal.ReportRefusal.{ReportRefusal}
-use Rattle.pp_model.specs.ReportFacts.{own_pattern}
 use Rattle.pp_report.specs.Patterns.{ask_patterns, of_judged}
 use Rattle.pp_report.specs.Prepared.{Showing, Settled, prepare_counts, settled_of}
 use Rattle.pp_saved.specs.SavedBytes.{AllTaken}

@@ -2,12 +2,8 @@
 use Rattle.std.specs.Prelude.{ℕ, ℤ, ◌&&◌, Bool, List, Option, option_map}
 use Rattle.std.specs.List.{list_any}
 use Rattle.std.specs.Ordering.{eq_by_cmp}
-use Rattle.pp_model.specs.declared.config.Config.{Config}
-use Rattle.pp_model.specs.declared.profile.Profile.{Profile}
-use Rattle.pp_model.specs.declared.grouping.Grouping.{Grouping}
-use Rattle.pp_model.specs.Finders.{Finders}
-use Rattle.pp_model.specs.FrameTexts.{Written}
-use Rattle.pp_grain.specs.Keys.{key_cmp, key_texts}
+use Rattle.pp_model.specs.Words.{Config, Profile, Grouping, Finders, Written}
+use Rattle.pp_grain.specs.Words.{key_cmp, key_texts}
 use Rattle.pp_share.specs.Header.{TypeText}
 use Rattle.pp_count.specs.Column.{column_of}
 use Rattle.pp_count.specs.Sums.{Seen, all_keys, flat, cum}

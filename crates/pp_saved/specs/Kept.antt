@@ -1,15 +1,8 @@
 -- A saved profile reports as its filters did.
 use Rattle.std.specs.Prelude.{◌≡◌, ◌<◌, ◌≤◌, ◌^◌, ℕ, List, [], length, Option}
 use Rattle.std.specs.List.{AllByRecursion}
-use Rattle.pp_model.specs.declared.config.Config.{Config}
-use Rattle.pp_model.specs.declared.profile.Profile.{Profile}
-use Rattle.pp_model.specs.declared.filtering.Filtering.{Filtering}
-use Rattle.pp_model.specs.Conditions.{IsColumnOf}
-use Rattle.pp_model.specs.Finders.{Finders, no_finders}
-use Rattle.pp_units.specs.Head.{Facts}
-use Rattle.pp_model.specs.Rules.{NoRuleFails}
-use Rattle.pp_model.specs.Sizes.{absolute_sum}
-use Rattle.pp_model.specs.Defaults.{standard_filtering}
+use Rattle.pp_model.specs.Words.{Config, Profile, Filtering, IsColumnOf, Finders, no_finders, NoRuleFails, absolute_sum, standard_filtering}
+use Rattle.pp_units.specs.Words.{Facts}
 use Rattle.pp_merge.specs.Merge.{merged}
 use Rattle.pp_count.specs.Column.{column_of}
 use Rattle.pp_count.specs.Counted.{has_own_match}

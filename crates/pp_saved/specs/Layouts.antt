@@ -4,17 +4,10 @@ use Rattle.std.specs.List.{filter, sum_by}
 use Rattle.std.specs.Option.{option_map_or}
 use Rattle.std.specs.Ordering.{then_cmp}
 use Rattle.std.specs.declared.cmp.Ordering.{Ordering}
-use Rattle.pp_model.specs.declared.config.Config.{Config}
-use Rattle.pp_model.specs.declared.presentation.Sort.{Sort}
+use Rattle.pp_model.specs.Words.{Config, Sort, Profile, Presentation, Finder, Finders, Written}
 use Rattle.pp_model.specs.declared.presentation.Sort.TheVariants as sorts
-use Rattle.pp_model.specs.declared.profile.Profile.{Profile}
-use Rattle.pp_model.specs.declared.presentation.Presentation.{Presentation}
-use Rattle.pp_model.specs.Finders.{Finder, Finders}
-use Rattle.pp_model.specs.FrameTexts.{Written}
-use Rattle.pp_units.specs.Head.{Facts, facts_text}
-use Rattle.pp_units.specs.Rows.{showing_line, heading}
-use Rattle.pp_grain.specs.Keys.{key_cmp}
-use Rattle.pp_grain.specs.Naming.{name_text}
+use Rattle.pp_units.specs.Words.{Facts, facts_text, showing_line, heading}
+use Rattle.pp_grain.specs.Words.{key_cmp, name_text}
 use Rattle.pp_count.specs.Sums.{has}
 use Rattle.pp_count.specs.Ranks.{is_heavy, by_size, each_once}
 use Rattle.pp_graph.specs.Neighbours.{neighbour_list}

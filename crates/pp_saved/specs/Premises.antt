@@ -1,12 +1,7 @@
 -- What is known of a profile and of the configuration whose filters it is saved by, and both without filters.
 use Rattle.std.specs.Prelude.{◌≡◌, ◌<◌, ◌^◌, pos, ◌≤ℤ◌, true, false, [], All}
 use Rattle.std.specs.List.{AllByRecursion, list_any}
-use Rattle.pp_model.specs.declared.config.Config.{Config}
-use Rattle.pp_model.specs.declared.profile.Profile.{Profile}
-use Rattle.pp_model.specs.declared.presentation.Presentation.{Presentation}
-use Rattle.pp_model.specs.Defaults.{standard_filtering}
-use Rattle.pp_model.specs.Finders.{Finders, no_finders}
-use Rattle.pp_model.specs.Rules.{NoRuleFails}
+use Rattle.pp_model.specs.Words.{Config, Profile, Presentation, standard_filtering, Finders, no_finders, NoRuleFails}
 use Rattle.pp_merge.specs.Merge.{merged}
 use Rattle.pp_count.specs.Counts.{is_base}
 

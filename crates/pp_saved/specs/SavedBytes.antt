@@ -1,15 +1,10 @@
 -- What a proto report writes loads as the profile that was saved, which reports as its filters did.
 use Rattle.std.specs.Prelude.{◌≡◌, ℕ, ◌<◌, ◌≤◌, ◌-◌, ◌^◌, true, List, [], length, Option, Result, Ok}
 use Rattle.std.specs.List.{AllByRecursion}
-use Rattle.pp_base.specs.FileMap.{FileMap}
-use Rattle.pp_base.specs.Judges.{Answer}
-use Rattle.pp_desk.specs.Course.{course}
-use Rattle.pp_model.specs.declared.config.Config.{Config}
-use Rattle.pp_model.specs.declared.loaded.Loaded.{Loaded}
-use Rattle.pp_model.specs.declared.report.BaseKind.{BaseKind}
-use Rattle.pp_model.specs.declared.report.Report.{Report}
+use Rattle.pp_base.specs.Words.{FileMap, Answer}
+use Rattle.pp_desk.specs.Words.{course}
+use Rattle.pp_model.specs.Words.{Config, Loaded, BaseKind, Report, IsCountable, absolute_sum}
 use Rattle.pp_model.specs.declared.report.Report.TheVariants as reports
-use Rattle.pp_model.specs.Sizes.{IsCountable, absolute_sum}
 use Rattle.pp_pattern.specs.Report.{Finds}
 use Rattle.pp_tables.specs.Encode.{encode}
 use Rattle.pp_tables.specs.Read.{read}

@@ -1,8 +1,7 @@
 -- Which reports stay when the profile that their filters leave is saved.
 use Rattle.std.specs.Prelude.{Bool, true}
-use Rattle.pp_model.specs.declared.report.Report.{Report}
+use Rattle.pp_model.specs.Words.{Report, reads_figures}
 use Rattle.pp_model.specs.declared.report.Report.TheVariants as reports
-use Rattle.pp_model.specs.ReportFacts.{reads_figures}
 
 -- The saved profile, without filters, has the report that the profile has with them: each that reads nothing but
 -- figures, which table does too, and folded, which reads the sums of call paths.

@@ -3,7 +3,7 @@ use Rattle.std.proofs.Common.{◌≡◌, ◌+◌, Bool, List, [], map, sym, ap, 
 use Rattle.std.specs.List.{AllByRecursion}
 use Rattle.std.proofs.lemmas.Simd.{map-map}
 use Rattle.pp_base.proofs.Lists.{all_by, map_agree}
-use Rattle.pp_model.specs.FirstSight.{distinct, place_of, numbers, ids}
+use Rattle.pp_model.specs.Words.{distinct, place_of, numbers, ids}
 use Rattle.pp_share.proofs.Prefix.{all_tt}
 use Rattle.pp_model.proofs.FirstSightLemmas.{distinct-map, place-map, all-seen_after}
 

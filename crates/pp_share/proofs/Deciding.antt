@@ -8,7 +8,7 @@ use Rattle.std.specs.Cmp.{booleans_Decides}
 use Rattle.std.proofs.lemmas.Option.{none-some, same_Some}
 use Rattle.std.proofs.lemmas.Bool.Decides.{Decides-and, Decides-like, Decides-eqb, Decides-int_eq}
 use Rattle.std.proofs.lemmas.Slice.Eq.{bytes_eq-Decides, slice_eq-Decides}
-use Rattle.pp_model.specs.FirstSight.{place_of}
+use Rattle.pp_model.specs.Words.{place_of}
 use Rattle.pp_share.specs.Described.{FunctionText, MappingText, LineText, LocationText, LabelText, SampleText}
 use Rattle.pp_share.specs.Alike.{same_function, equal_mapping, same_line, same_location, same_label, same_sample}
 use Rattle.pp_model.proofs.FirstSightLemmas.{IsSeen}

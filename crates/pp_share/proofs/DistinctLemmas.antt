@@ -7,7 +7,7 @@ use Rattle.std.proofs.lemmas.List.Sums.{position_or_len_is}
 use Rattle.std.proofs.lemmas.Map.Keys.{apart_from_distinct}
 use Rattle.pp_base.proofs.Booleans.{same_bool}
 use Rattle.indexmap.proofs.SetLemmas.{set_all_distinct}
-use Rattle.pp_model.specs.FirstSight.{distinct, place_of}
+use Rattle.pp_model.specs.Words.{distinct, place_of}
 use Rattle.pp_model.proofs.FirstSightLemmas.{IsSeen}
 
 module _ {A : Type 0} (same : A → A → Bool) (decides : (a b : A) → Decides (same a b) (a ≡ b)) where

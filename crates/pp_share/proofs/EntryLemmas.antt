@@ -7,7 +7,7 @@ use Rattle.std.specs.Option.{unwrap_or}
 use Rattle.std.specs.Str.{bytes_eq}
 use Rattle.std.proofs.lemmas.Bool.{ne_eqb, cond-false, lt-leb}
 use Rattle.std.proofs.lemmas.Slice.Eq.{bytes_eq-Decides}
-use Rattle.pp_model.specs.Lookup.{place_read}
+use Rattle.pp_model.specs.Words.{place_read}
 use Rattle.pp_share.specs.Described.{FunctionText, MappingText, less, plus}
 use Rattle.pp_share.specs.Header.{first_nonempty}
 use Rattle.pp_share.specs.Ids.{index_of_id}

@@ -10,7 +10,7 @@ use Rattle.std.specs.Prelude.{⊤}
 use Rattle.std.specs.Ordering.{int_eq}
 use Rattle.std.specs.Cmp.{IsEquivalence}
 use Rattle.pp_base.proofs.Lists.{map_agree, all_by}
-use Rattle.pp_model.specs.FirstSight.{seen_with, distinct}
+use Rattle.pp_model.specs.Words.{seen_with, distinct}
 use Rattle.pp_share.specs.Sums.{added, column_totals, counts, keys_of, rows_of, sum_of, summed}
 use Rattle.pp_model.proofs.FirstSightLemmas.{IsSeen, all_seen, distinct_push, all-seen_after}
 use Rattle.pp_share.proofs.SumLemmas.{added-zeros, total_push}

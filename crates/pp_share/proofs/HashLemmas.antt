@@ -4,8 +4,8 @@ use Rattle.std.specs.List.{list_all}
 use Rattle.std.proofs.lemmas.List.{map-append, map_more, take_more}
 use Rattle.std.proofs.lemmas.List.Folds.{list_all-append, list_all_more}
 use Rattle.std.proofs.lemmas.List.Sums.{sum_by-cons, sum_by-append}
-use Rattle.pp_base.specs.Capped.{capped}
-use Rattle.pp_model.specs.declared.profile.Sample.{Sample}
+use Rattle.pp_base.specs.Words.{capped}
+use Rattle.pp_model.specs.Words.{Sample}
 use Rattle.pp_share.specs.declared.hashes.Hashes.{Hashes}
 use Rattle.pp_share.specs.Hashes.{sum_together, AreHashesBy, AddsHash}
 use Rattle.pp_share.specs.SampleKeys.{has_values}

@@ -1,6 +1,6 @@
 -- Samples that keep their ids keep their hashes.
 use Rattle.std.proofs.Common.{◌≡◌, List, map, sym, ◌∙◌}
-use Rattle.pp_model.specs.declared.profile.Sample.{Sample}
+use Rattle.pp_model.specs.Words.{Sample}
 use Rattle.pp_share.specs.declared.hashes.Hashes.{Hashes}
 use Rattle.pp_share.specs.declared.renumbering.Renumbering.{Renumbering}
 use Rattle.pp_share.specs.Hashes.{AreHashes, AreOwnHashes, KeepsSamples}

@@ -3,10 +3,7 @@ use Rattle.std.proofs.Common.{◌≡◌, ℕ, ◌+◌, ◌-◌, ◌<◌, ◌&&�
 use Rattle.std.specs.List.{AllByRecursion}
 use Rattle.std.proofs.lemmas.Bool.{and_parts, ne_eqb, cond-false}
 use Rattle.std.proofs.lemmas.List.{map-id}
-use Rattle.pp_model.specs.declared.profile.Label.{Label}
-use Rattle.pp_model.specs.declared.profile.Sample.{Sample}
-use Rattle.pp_model.specs.Lookup.{text_number}
-use Rattle.pp_model.specs.Rules.{AreNumbered, is_text_of}
+use Rattle.pp_model.specs.Words.{Label, Sample, text_number, AreNumbered, is_text_of}
 use Rattle.pp_model.proofs.RuleLemmas.{text_below, text_is}
 use Rattle.pp_share.specs.declared.ids.Ids.{Ids}
 use Rattle.pp_share.specs.declared.ids.Ids.TheVariants.{Same, By}

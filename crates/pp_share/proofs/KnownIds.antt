@@ -6,7 +6,7 @@ use Rattle.std.proofs.lemmas.Bool.{eq-eqb, ne_eqb, cases_eq, cases_lt, cond-fals
 use Rattle.std.proofs.lemmas.List.{take_more}
 use Rattle.std.proofs.lemmas.List.FromFn.{get_or-range_with_len, length-range_with_len}
 use Rattle.std.proofs.lemmas.List.Sums.{fails_before_first, position_or_len_is}
-use Rattle.pp_model.specs.Rules.{first_repeated, stands_in, AreNumbered}
+use Rattle.pp_model.specs.Words.{first_repeated, stands_in, AreNumbered}
 use Rattle.pp_share.specs.Behind.{behind_id}
 use Rattle.pp_share.specs.Ids.{place_id}
 use Rattle.pp_share.proofs.IdLemmas.{place_missed}

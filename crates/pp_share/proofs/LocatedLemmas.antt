@@ -7,7 +7,7 @@ use Rattle.std.proofs.lemmas.Bool.Decides.{leb_tells}
 use Rattle.std.proofs.lemmas.Grind.{flat_map-append}
 use Rattle.std.proofs.lemmas.List.{ext_get_or, get_or-map, length-map, length-take, take_all, take-append-drop}
 use Rattle.std.proofs.lemmas.List.Sums.{fold-append}
-use Rattle.pp_model.specs.declared.profile.Sample.{Sample}
+use Rattle.pp_model.specs.Words.{Sample}
 use Rattle.pp_share.specs.Located.{HasLocated, KnowsAll}
 use Rattle.pp_share.specs.Renumbered.{NewIds, renumbered_sample}
 use Rattle.pp_share.specs.Share.{NamesLocations}

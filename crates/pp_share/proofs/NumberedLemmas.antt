@@ -9,7 +9,7 @@ use Rattle.std.proofs.lemmas.List.{get_or_default, get_or-take, length-take}
 use Rattle.std.proofs.lemmas.List.Folds.{list_any_at}
 use Rattle.std.proofs.lemmas.List.FromFn.{get_or-range_with_len, length-range_with_len}
 use Rattle.pp_base.proofs.Lists.{all_by}
-use Rattle.pp_model.specs.Rules.{AreNumbered, stands_in, first_failing, first_repeated}
+use Rattle.pp_model.specs.Words.{AreNumbered, stands_in, first_failing, first_repeated}
 use Rattle.pp_model.proofs.RuleLemmas.{contains_from}
 
 module _ {A : Type 0} (P : A → Type 0) where

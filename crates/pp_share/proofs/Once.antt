@@ -10,8 +10,7 @@ use Rattle.std.proofs.lemmas.List.{length-map, get_or-map}
 use Rattle.std.proofs.lemmas.List.Elements.{All-from_recursion}
 use Rattle.std.proofs.lemmas.Option.{slice_get-get_or, slice_get_past}
 use Rattle.pp_base.proofs.Lists.{all_by}
-use Rattle.pp_model.specs.Lookup.{place_read}
-use Rattle.pp_model.specs.FirstSight.{seen_after, distinct, place_of, numbers, ids}
+use Rattle.pp_model.specs.Words.{place_read, seen_after, distinct, place_of, numbers, ids}
 use Rattle.pp_share.specs.Ids.{listed_id}
 use Rattle.pp_model.proofs.FirstSightLemmas.{IsSeen, all_seen}
 use Rattle.pp_share.proofs.Deciding.{place_gets}

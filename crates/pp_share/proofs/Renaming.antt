@@ -2,15 +2,7 @@
 use Rattle.std.proofs.Common.{◌≡◌, ℕ, ℤ, List, map, Option, ◌∙◌}
 use Rattle.std.specs.Option.{option_map}
 use Rattle.std.proofs.lemmas.Simd.{map-map}
-use Rattle.pp_model.specs.declared.profile.ValueType.{ValueType}
-use Rattle.pp_model.specs.declared.profile.Label.{Label}
-use Rattle.pp_model.specs.declared.profile.Sample.{Sample}
-use Rattle.pp_model.specs.declared.profile.Mapping.{Mapping}
-use Rattle.pp_model.specs.declared.profile.Line.{Line}
-use Rattle.pp_model.specs.declared.profile.Location.{Location}
-use Rattle.pp_model.specs.declared.profile.Function.{Function}
-use Rattle.pp_model.specs.declared.profile.Profile.{Profile}
-use Rattle.pp_model.specs.Lookup.{text_of}
+use Rattle.pp_model.specs.Words.{ValueType, Label, Sample, Mapping, Line, Location, Function, Profile, text_of}
 use Rattle.pp_share.specs.Described.{FunctionText, MappingText, LocationText, less, start_of, function_text, mapping_text, line_text, location_text, label_text, sample_text}
 use Rattle.pp_share.specs.Header.{type_text}
 use Rattle.pp_share.specs.Renumbered.{NewIds, renumbered_type, renumbered_label, renumbered_line, renumbered_function, renumbered_mapping, renumbered_location, renumbered_sample}

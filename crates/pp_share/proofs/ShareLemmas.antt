@@ -5,10 +5,7 @@ use Rattle.std.specs.Str.{bytes_eq}
 use Rattle.std.specs.Cmp.{nat_eq_equiv}
 use Rattle.std.specs.Cmp.Lexicographic.{lists_equiv}
 use Rattle.std.proofs.lemmas.List.{length-map}
-use Rattle.pp_model.specs.declared.profile.Sample.{Sample}
-use Rattle.pp_model.specs.declared.profile.Profile.{Profile}
-use Rattle.pp_model.specs.Sizes.{value_in}
-use Rattle.pp_model.specs.FirstSight.{ids}
+use Rattle.pp_model.specs.Words.{Sample, Profile, value_in, ids}
 use Rattle.pp_share.specs.Header.{header_of}
 use Rattle.pp_share.specs.Placed.{gist, plain, totalled, samples_placed, mappings_of}
 use Rattle.pp_share.specs.Alike.{first_alike}

@@ -9,12 +9,7 @@ use Rattle.std.specs.Cmp.{IsEquivalence, nat_eq_equiv, decided}
 use Rattle.std.specs.Cmp.Lexicographic.{lists_equiv}
 use Rattle.std.proofs.lemmas.Bool.Decides.{Decides-int_eq, Decides-eqb, Decides-like, same_from_decides}
 use Rattle.std.proofs.lemmas.List.{append-nil}
-use Rattle.pp_model.specs.declared.profile.Location.{Location}
-use Rattle.pp_model.specs.declared.profile.Line.{Line}
-use Rattle.pp_model.specs.declared.profile.Function.{Function}
-use Rattle.pp_model.specs.declared.profile.Profile.{Profile}
-use Rattle.pp_model.specs.Lookup.{text_number, text_of, place_read}
-use Rattle.pp_model.specs.FirstSight.{distinct, ids}
+use Rattle.pp_model.specs.Words.{Location, Line, Function, Profile, text_number, text_of, place_read, distinct, ids}
 use Rattle.pp_share.specs.Ids.{listed_id}
 use Rattle.pp_share.specs.Described.{MappingText, function_text, location_text, sample_text, nowhere}
 use Rattle.pp_share.specs.Alike.{same_function, first_alike}

@@ -13,14 +13,8 @@ use Rattle.std.proofs.lemmas.List.{length-map}
 use Rattle.std.proofs.lemmas.List.Folds.{find_at}
 use Rattle.std.proofs.lemmas.Option.{slice_get-get_or}
 use Rattle.std.proofs.lemmas.Simd.{map-map}
-use Rattle.pp_model.specs.declared.profile.Mapping.{Mapping}
-use Rattle.pp_model.specs.declared.profile.Location.{Location}
-use Rattle.pp_model.specs.declared.profile.Line.{Line}
-use Rattle.pp_model.specs.declared.profile.Profile.{Profile}
-use Rattle.pp_model.specs.Conditions.{no_location}
-use Rattle.pp_model.specs.Lookup.{text_of, place_read}
+use Rattle.pp_model.specs.Words.{Mapping, Location, Line, Profile, no_location, text_of, place_read, distinct, place_of, ids}
 use Rattle.pp_share.specs.declared.ids.Ids.TheVariants.{By}
-use Rattle.pp_model.specs.FirstSight.{distinct, place_of, ids}
 use Rattle.pp_share.specs.Ids.{listed_id}
 use Rattle.pp_share.specs.Described.{FunctionText, MappingText, LocationText, less, plus, start_of, function_text, mapping_text, line_text, location_text, sample_text, nowhere}
 use Rattle.pp_share.specs.Alike.{same_function, same_mapping, equal_mapping, same_line, same_location, identity, first_alike}

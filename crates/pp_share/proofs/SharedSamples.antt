@@ -9,10 +9,7 @@ use Rattle.std.specs.Cmp.{IsEquivalence, decided}
 use Rattle.std.specs.Cmp.Lexicographic.{pointwise}
 use Rattle.std.proofs.lemmas.List.{length-map}
 use Rattle.std.proofs.lemmas.Simd.{map-map}
-use Rattle.pp_model.specs.declared.profile.Label.{Label}
-use Rattle.pp_model.specs.declared.profile.Profile.{Profile}
-use Rattle.pp_model.specs.Lookup.{text_of}
-use Rattle.pp_model.specs.FirstSight.{distinct}
+use Rattle.pp_model.specs.Words.{Label, Profile, text_of, distinct}
 use Rattle.pp_share.specs.Described.{LocationText, SampleText, label_text, sample_text, location_text, nowhere}
 use Rattle.pp_share.specs.Alike.{same_location, same_label, same_sample}
 use Rattle.pp_share.specs.Header.{header_of}

@@ -9,10 +9,7 @@ use Rattle.std.specs.Cmp.Lexicographic.{lists_equiv}
 use Rattle.std.proofs.lemmas.Bool.{cases_lt, ne_eqb, cond-false}
 use Rattle.std.proofs.lemmas.List.{get_or_past}
 use Rattle.std.proofs.lemmas.Slice.Eq.{bytes_eq-Decides}
-use Rattle.pp_model.specs.declared.profile.ValueType.{ValueType}
-use Rattle.pp_model.specs.declared.profile.Profile.{Profile}
-use Rattle.pp_model.specs.Lookup.{text_number, text_of, place_read}
-use Rattle.pp_model.specs.FirstSight.{distinct, place_of, ids}
+use Rattle.pp_model.specs.Words.{ValueType, Profile, text_number, text_of, place_read, distinct, place_of, ids}
 use Rattle.pp_share.specs.Ids.{listed_id, index_of_id}
 use Rattle.pp_share.specs.Described.{MappingText, function_text, mapping_text, location_text, sample_text, nowhere}
 use Rattle.pp_share.specs.Alike.{first_alike}

@@ -6,8 +6,7 @@ use Rattle.std.specs.Cmp.Lexicographic.{pointwise, slice_cmp, lists_total, lists
 use Rattle.std.specs.Ordering.{is_eq, nat_cmp, int_cmp, ordering_then, MatchOrdering}
 use Rattle.std.specs.declared.cmp.Ordering.{Ordering}
 use Rattle.std.specs.declared.cmp.Ordering.TheVariants.{Less, Equal, Greater}
-use Rattle.pp_model.specs.declared.profile.Label.{Label}
-use Rattle.pp_model.specs.declared.profile.Sample.{Sample}
+use Rattle.pp_model.specs.Words.{Label, Sample}
 use Rattle.pp_share.specs.declared.repeats.KindBy.{KindBy}
 use Rattle.pp_share.specs.declared.repeats.KindBy.TheVariants.{Hash, Stack}
 use Rattle.pp_share.specs.declared.repeats.Placed.{Placed}

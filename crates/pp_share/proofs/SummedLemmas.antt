@@ -4,7 +4,7 @@ use Rattle.std.specs.List.{list_any, AllByRecursion, IsDistinct}
 use Rattle.std.specs.Cmp.{IsEquivalence}
 use Rattle.std.proofs.lemmas.Simd.{map-map}
 use Rattle.pp_base.proofs.Lists.{all_by, map_agree}
-use Rattle.pp_model.specs.FirstSight.{distinct}
+use Rattle.pp_model.specs.Words.{distinct}
 use Rattle.pp_share.specs.Sums.{column_totals, keys_of, rows_of, sum_of, summed}
 use Rattle.pp_model.proofs.FirstSightLemmas.{distinct-map, all-seen_after}
 use Rattle.pp_share.proofs.DistinctLemmas.{distinct_same}

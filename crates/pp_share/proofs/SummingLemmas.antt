@@ -13,11 +13,7 @@ use Rattle.std.proofs.Math.IntN.{+ℤ_idl, +ℤ_assoc, +ℤ_comm}
 use Rattle.pp_base.proofs.Lists.{all_push}
 use Rattle.pp_base.proofs.Booleans.{either}
 use Rattle.pp_base.proofs.Sums.{triangle}
-use Rattle.pp_model.specs.declared.profile.Label.{Label}
-use Rattle.pp_model.specs.declared.profile.Sample.{Sample}
-use Rattle.pp_model.specs.FirstSight.{distinct}
-use Rattle.pp_model.specs.Sizes.{value_in}
-use Rattle.pp_model.specs.Values.{no_sample}
+use Rattle.pp_model.specs.Words.{Label, Sample, distinct, value_in, no_sample}
 use Rattle.pp_share.specs.declared.repeats.Repeat.{Repeat}
 use Rattle.pp_share.specs.Hashes.{hash_by}
 use Rattle.pp_share.specs.Renumbered.{NewIds, renumbered_label, renumbered_sample}

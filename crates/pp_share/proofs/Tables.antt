@@ -12,8 +12,7 @@ use Rattle.std.proofs.lemmas.List.Elements.{All-from_recursion}
 use Rattle.std.proofs.lemmas.Map.Keys.{IsDistinct-head}
 use Rattle.std.proofs.lemmas.Option.{slice_get-get_or, slice_get-map}
 use Rattle.std.proofs.lemmas.Simd.{map-map}
-use Rattle.pp_model.specs.Lookup.{place_read}
-use Rattle.pp_model.specs.FirstSight.{seen_with, seen_after, distinct, place_of}
+use Rattle.pp_model.specs.Words.{place_read, seen_with, seen_after, distinct, place_of}
 use Rattle.pp_share.specs.Ids.{place_id}
 use Rattle.pp_share.specs.Walk.{met_after}
 use Rattle.pp_share.specs.Gathered.{gathered}

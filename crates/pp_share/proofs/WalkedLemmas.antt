@@ -3,13 +3,7 @@ use Rattle.std.proofs.Common.{◌≡◌, ℕ, ◌+◌, ◌<◌, ℤ, List, [], �
 use Rattle.std.specs.Option.{option_map_or}
 use Rattle.std.specs.Str.{bytes_eq}
 use Rattle.std.proofs.lemmas.List.{length-map, map-id}
-use Rattle.pp_model.specs.declared.profile.ValueType.{ValueType}
-use Rattle.pp_model.specs.declared.profile.Label.{Label}
-use Rattle.pp_model.specs.declared.profile.Sample.{Sample}
-use Rattle.pp_model.specs.declared.profile.Line.{Line}
-use Rattle.pp_model.specs.declared.profile.Profile.{Profile}
-use Rattle.pp_model.specs.Lookup.{text_number, text_of}
-use Rattle.pp_model.specs.FirstSight.{place_of}
+use Rattle.pp_model.specs.Words.{ValueType, Label, Sample, Line, Profile, text_number, text_of, place_of}
 use Rattle.pp_share.specs.Described.{less, plus, function_text, mapping_text, line_text, label_text, sample_text}
 use Rattle.pp_share.specs.Header.{type_text, first_nonempty}
 use Rattle.pp_share.specs.Ids.{place_id, index_of_id}

@@ -6,11 +6,7 @@ use Rattle.std.specs.List.{AllByRecursion, filter_map, flat_map, cons_option}
 use Rattle.std.specs.Option.{option_to_list, unwrap_or}
 use Rattle.std.specs.Cmp.{decided}
 use Rattle.std.proofs.lemmas.List.{length-map}
-use Rattle.pp_model.specs.declared.profile.Location.{Location}
-use Rattle.pp_model.specs.declared.profile.Profile.{Profile}
-use Rattle.pp_model.specs.Conditions.{no_location}
-use Rattle.pp_model.specs.Lookup.{text_of, place_read}
-use Rattle.pp_model.specs.FirstSight.{distinct}
+use Rattle.pp_model.specs.Words.{Location, Profile, no_location, text_of, place_read, distinct}
 use Rattle.pp_share.specs.Described.{LocationText, function_text, mapping_text, line_text, location_text, sample_text, nowhere}
 use Rattle.pp_share.specs.Alike.{same_function, equal_mapping, same_location}
 use Rattle.pp_share.specs.Walk.{location_refs, mapping_ref, function_refs}

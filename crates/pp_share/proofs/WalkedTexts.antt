@@ -5,12 +5,7 @@ use Rattle.std.specs.Str.{bytes_eq}
 use Rattle.std.specs.Cmp.{nat_eq_equiv}
 use Rattle.std.specs.Cmp.Lexicographic.{lists_equiv}
 use Rattle.std.proofs.lemmas.List.{map-append, map-id, append-nil}
-use Rattle.pp_model.specs.declared.profile.ValueType.{ValueType}
-use Rattle.pp_model.specs.declared.profile.Mapping.{Mapping}
-use Rattle.pp_model.specs.declared.profile.Function.{Function}
-use Rattle.pp_model.specs.declared.profile.Profile.{Profile}
-use Rattle.pp_model.specs.Lookup.{text_number, text_of}
-use Rattle.pp_model.specs.FirstSight.{distinct}
+use Rattle.pp_model.specs.Words.{ValueType, Mapping, Function, Profile, text_number, text_of, distinct}
 use Rattle.pp_share.specs.Described.{label_text, sample_text}
 use Rattle.pp_share.specs.Header.{type_text}
 use Rattle.pp_share.specs.Walk.{text_ids, type_text_ids, label_text_ids, sample_text_ids, mapping_text_ids, function_text_ids, header_text_ids, profile_text_ids}

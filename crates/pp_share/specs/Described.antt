@@ -1,14 +1,7 @@
 -- What stands in a profile, written out in texts: functions, mappings, locations and samples.
 use Rattle.std.specs.Prelude.{ℕ, ◌+◌, ◌-◌, ◌^◌, ◌%◌, Bool, false, ℤ, List, [], map, Option, None}
 use Rattle.std.specs.Option.{option_map, option_map_or}
-use Rattle.pp_model.specs.declared.profile.Label.{Label}
-use Rattle.pp_model.specs.declared.profile.Sample.{Sample}
-use Rattle.pp_model.specs.declared.profile.Mapping.{Mapping}
-use Rattle.pp_model.specs.declared.profile.Line.{Line}
-use Rattle.pp_model.specs.declared.profile.Location.{Location}
-use Rattle.pp_model.specs.declared.profile.Function.{Function}
-use Rattle.pp_model.specs.declared.profile.Profile.{Profile}
-use Rattle.pp_model.specs.Lookup.{text_of, mapping_with, function_with, location_with}
+use Rattle.pp_model.specs.Words.{Label, Sample, Mapping, Line, Location, Function, Profile, text_of, mapping_with, function_with, location_with}
 
 -- A function: its texts and where it starts.
 pub record FunctionText : Type 0 where

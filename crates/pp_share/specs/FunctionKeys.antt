@@ -1,5 +1,5 @@
 -- What tells functions apart where texts stand once.
-use Rattle.pp_model.specs.declared.profile.Function.{Function}
+use Rattle.pp_model.specs.Words.{Function}
 use Rattle.pp_share.specs.declared.functions.FunctionKey.{FunctionKey}
 
 -- the function's key: all but its id

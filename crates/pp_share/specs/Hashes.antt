@@ -1,9 +1,8 @@
 -- The hashes by which samples are told apart: by the ids that they have, or once they have new ones.
 use Rattle.std.specs.Prelude.{◌≡◌, ℕ, ◌+◌, ◌++◌, [], ◌∷◌, ◌&&◌, nat_abs, List, length, map}
 use Rattle.std.specs.List.{list_all, sum_by}
-use Rattle.pp_base.specs.Capped.{capped}
-use Rattle.pp_model.specs.declared.profile.Sample.{Sample}
-use Rattle.pp_model.specs.declared.profile.Profile.{Profile}
+use Rattle.pp_base.specs.Words.{capped}
+use Rattle.pp_model.specs.Words.{Sample, Profile}
 use Rattle.pp_share.specs.declared.hashes.Hashes.{Hashes}
 use Rattle.pp_share.specs.declared.ids.Ids.TheVariants.{Same}
 use Rattle.pp_share.specs.declared.renumbering.Renumbering.{Renumbering}

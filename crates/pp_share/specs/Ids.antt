@@ -1,7 +1,6 @@
 -- Ids of a table's entries, and what they become. An id is a place plus 1, and 0 stands for none.
 use Rattle.std.specs.Prelude.{◌≡◌, ℕ, ◌+◌, ◌-◌, ◌^◌, ◌≤◌, ◌==◌, ◌||◌, nat_le, true, ℤ, pos, List, slice_index_or, if◌then◌else◌}
-use Rattle.pp_model.specs.Lookup.{text_number}
-use Rattle.pp_model.specs.Rules.{is_text_of}
+use Rattle.pp_model.specs.Words.{text_number, is_text_of}
 use Rattle.pp_share.specs.Behind.{behind_id}
 pub use Rattle.pp_share.specs.MetPlaces.{place_id}
 use Rattle.pp_share.specs.declared.ids.Known.{Known}

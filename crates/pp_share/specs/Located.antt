@@ -1,7 +1,7 @@
 -- Samples of which locations and labels become places apart from each other.
 use Rattle.std.specs.Prelude.{◌≡◌, ℕ, ◌<◌, ◌≤◌, ◌==◌, nat_le, true, List, map, take, drop, length, ◌++◌, if◌then◌else◌}
 use Rattle.std.specs.List.{list_any, flat_map}
-use Rattle.pp_model.specs.declared.profile.Sample.{Sample}
+use Rattle.pp_model.specs.Words.{Sample}
 use Rattle.pp_share.specs.Ids.{place_id}
 use Rattle.pp_share.specs.Renumbered.{NewIds, renumbered_label, renumbered_sample}
 use Rattle.pp_share.specs.Walk.{met_after, location_refs}

@@ -4,10 +4,7 @@ use Rattle.std.specs.Option.{option_map_or}
 use Rattle.std.specs.Bool.{beq}
 use Rattle.std.specs.Ordering.{int_eq}
 use Rattle.std.specs.Cmp.Lexicographic.{pointwise}
-use Rattle.pp_model.specs.declared.profile.Mapping.{Mapping}
-use Rattle.pp_model.specs.declared.profile.Line.{Line}
-use Rattle.pp_model.specs.declared.profile.Location.{Location}
-use Rattle.pp_model.specs.Lookup.{place_read}
+use Rattle.pp_model.specs.Words.{Mapping, Line, Location, place_read}
 use Rattle.pp_share.specs.declared.places.MappingKey.{MappingKey}
 use Rattle.pp_share.specs.declared.places.LocationKey.{LocationKey}
 use Rattle.pp_share.specs.declared.ids.Ids.{Ids}

@@ -1,8 +1,7 @@
 -- What a profile says whose references are by place: an id is a place plus 1.
 use Rattle.std.specs.Prelude.{ℕ, ℤ, List, [], map, filter, slice_get, Option}
 use Rattle.std.specs.Option.{unwrap_or}
-use Rattle.pp_model.specs.declared.profile.Profile.{Profile}
-use Rattle.pp_model.specs.Lookup.{place_read, text_of}
+use Rattle.pp_model.specs.Words.{Profile, place_read, text_of}
 use Rattle.pp_share.specs.Described.{FunctionText, MappingText, LocationText, SampleText, function_text, mapping_text, location_text, sample_text, nowhere}
 use Rattle.pp_share.specs.Alike.{same_sample, first_alike}
 use Rattle.pp_share.specs.Sums.{summed, counts}

@@ -1,13 +1,6 @@
 -- A profile whose references are given new numbers.
 use Rattle.std.specs.Prelude.{ℕ, ℤ, map}
-use Rattle.pp_model.specs.declared.profile.ValueType.{ValueType}
-use Rattle.pp_model.specs.declared.profile.Label.{Label}
-use Rattle.pp_model.specs.declared.profile.Sample.{Sample}
-use Rattle.pp_model.specs.declared.profile.Mapping.{Mapping}
-use Rattle.pp_model.specs.declared.profile.Line.{Line}
-use Rattle.pp_model.specs.declared.profile.Location.{Location}
-use Rattle.pp_model.specs.declared.profile.Function.{Function}
-use Rattle.pp_model.specs.declared.profile.Profile.{Profile}
+use Rattle.pp_model.specs.Words.{ValueType, Label, Sample, Mapping, Line, Location, Function, Profile}
 use Rattle.pp_share.specs.declared.renumbering.Renumbering.{Renumbering}
 use Rattle.pp_share.specs.Ids.{new_id, new_text}
 

@@ -1,7 +1,6 @@
 -- What tells samples apart where texts and locations stand once.
 use Rattle.std.specs.Prelude.{ℕ, Bool, ℤ, List, map, filter}
-use Rattle.pp_model.specs.declared.profile.Label.{Label}
-use Rattle.pp_model.specs.declared.profile.Sample.{Sample}
+use Rattle.pp_model.specs.Words.{Label, Sample}
 use Rattle.pp_share.specs.SampleStacks.{same_stack, stack_hash}
 use Rattle.pp_share.specs.Sums.{counts, summed}
 

@@ -8,7 +8,7 @@ use Rattle.std.specs.Cmp.Lexicographic.{pointwise}
 use Rattle.std.proofs.Common.{refl, ap}
 use Rattle.std.proofs.lemmas.Bool.Decides.{Decides-and, Decides-like, Decides-eqb, Decides-int_eq}
 use Rattle.std.proofs.lemmas.Slice.Eq.{slice_eq-Decides}
-use Rattle.pp_model.specs.declared.profile.Label.{Label}
+use Rattle.pp_model.specs.Words.{Label}
 
 -- labels have the same fields
 abbrev pub equal_label : Label → Label → Bool

@@ -3,11 +3,7 @@ use Rattle.std.specs.Prelude.{◌≡◌, ℕ, ◌≤◌, Bool, true, ◌&&◌, [
 use Rattle.std.specs.List.{AllByRecursion}
 use Rattle.std.specs.Int.{saturate_to_bits}
 use Rattle.std.specs.Ordering.{int_eq}
-use Rattle.pp_model.specs.declared.profile.Label.{Label}
-use Rattle.pp_model.specs.declared.profile.Sample.{Sample}
-use Rattle.pp_model.specs.declared.profile.Profile.{Profile}
-use Rattle.pp_model.specs.FirstSight.{distinct}
-use Rattle.pp_model.specs.Rules.{is_text_of}
+use Rattle.pp_model.specs.Words.{Label, Sample, Profile, distinct, is_text_of}
 use Rattle.pp_share.specs.SampleKeys.{summed_samples}
 use Rattle.pp_share.specs.Shared.{with_shared_texts, with_shared_functions, with_shared_places}
 

@@ -3,14 +3,9 @@
 use Rattle.std.specs.Prelude.{ℕ, ◌+◌, ◌&&◌, ◌==◌, Bool, List, map}
 use Rattle.std.specs.Ordering.{int_eq}
 use Rattle.std.specs.Str.{bytes_eq}
-use Rattle.pp_model.specs.declared.profile.Mapping.{Mapping}
-use Rattle.pp_model.specs.declared.profile.Location.{Location}
-use Rattle.pp_model.specs.declared.profile.Function.{Function}
-use Rattle.pp_model.specs.declared.profile.Profile.{Profile}
-use Rattle.pp_model.specs.Lookup.{text_number}
+use Rattle.pp_model.specs.Words.{Mapping, Location, Function, Profile, text_number, distinct, ids}
 use Rattle.pp_share.specs.declared.ids.Ids.TheVariants.{By}
 use Rattle.pp_share.specs.Ids.{listed_id, index_of_id}
-use Rattle.pp_model.specs.FirstSight.{distinct, ids}
 use Rattle.pp_share.specs.PlaceKeys.{mapping_key, distant, near, same_place}
 use Rattle.pp_share.specs.Renumbered.{NewIds, renumbered, renumbered_location, renumbered_sample}
 

@@ -3,8 +3,7 @@ use Rattle.std.specs.Prelude.{ℕ, ℤ}
 use Rattle.std.specs.Cmp.Lexicographic.{slice_cmp}
 use Rattle.std.specs.Ordering.{nat_cmp, int_cmp, ordering_then}
 use Rattle.std.specs.declared.cmp.Ordering.{Ordering}
-use Rattle.pp_model.specs.declared.profile.Label.{Label}
-use Rattle.pp_model.specs.declared.profile.Sample.{Sample}
+use Rattle.pp_model.specs.Words.{Label, Sample}
 use Rattle.pp_share.specs.Renumbered.{NewIds, new_ids}
 use Rattle.pp_share.specs.declared.repeats.KindBy.{KindBy}
 use Rattle.pp_share.specs.declared.repeats.KindBy.TheVariants.{Hash, Stack}

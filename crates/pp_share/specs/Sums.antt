@@ -2,9 +2,7 @@
 use Rattle.std.specs.Prelude.{◌≡◌, ℕ, ◌-◌, ◌^◌, ◌<◌, ◌≤◌, Bool, not, ℤ, ◌+ℤ◌, pos, nat_abs, List, [], ◌∷◌, All, length, map, fold, filter, replicate}
 use Rattle.std.specs.Ordering.{int_eq}
 use Rattle.std.specs.List.{list_all, sum_by}
-use Rattle.pp_model.specs.declared.profile.Sample.{Sample}
-use Rattle.pp_model.specs.Sizes.{value_in}
-use Rattle.pp_model.specs.FirstSight.{distinct}
+use Rattle.pp_model.specs.Words.{Sample, value_in, distinct}
 
 -- two rows of values added up, column by column
 abbrev pub added : List ℤ → List ℤ → List ℤ

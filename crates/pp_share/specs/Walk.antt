@@ -1,15 +1,7 @@
 -- Ids in the order in which a walk over a profile meets them. The id of a text is its index plus 1.
 use Rattle.std.specs.Prelude.{◌≡◌, ℕ, ◌+◌, ◌==◌, ℤ, List, [], ◌∷◌, ◌++◌, fold, if◌then◌else◌}
 use Rattle.std.specs.List.{flat_map}
-use Rattle.pp_model.specs.declared.profile.ValueType.{ValueType}
-use Rattle.pp_model.specs.declared.profile.Label.{Label}
-use Rattle.pp_model.specs.declared.profile.Sample.{Sample}
-use Rattle.pp_model.specs.declared.profile.Mapping.{Mapping}
-use Rattle.pp_model.specs.declared.profile.Location.{Location}
-use Rattle.pp_model.specs.declared.profile.Function.{Function}
-use Rattle.pp_model.specs.declared.profile.Profile.{Profile}
-use Rattle.pp_model.specs.Lookup.{text_number}
-use Rattle.pp_model.specs.FirstSight.{seen_with}
+use Rattle.pp_model.specs.Words.{ValueType, Label, Sample, Mapping, Location, Function, Profile, text_number, seen_with}
 
 -- the ids met, after one more; 0 is none
 abbrev pub met_with : List ℕ → ℕ → List ℕ

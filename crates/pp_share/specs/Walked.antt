@@ -1,10 +1,7 @@
 -- A profile with what its samples name, in the order in which a walk over them meets it.
 use Rattle.std.specs.Prelude.{◌≡◌, ℕ, ◌+◌, ◌<◌, ◌^◌, ℤ, ◌==◌, List, [], ◌∷◌, length, map, if◌then◌else◌}
 use Rattle.std.specs.List.{flat_map}
-use Rattle.pp_model.specs.declared.profile.Label.{Label}
-use Rattle.pp_model.specs.declared.profile.Sample.{Sample}
-use Rattle.pp_model.specs.declared.profile.Profile.{Profile}
-use Rattle.pp_model.specs.Lookup.{text_number}
+use Rattle.pp_model.specs.Words.{Label, Sample, Profile, text_number}
 use Rattle.pp_share.specs.Ids.{place_id, index_of_id}
 use Rattle.pp_share.specs.Walk.{met_after, IsPlaced, location_refs, mapping_ref, function_refs, first_text_ids, sample_text_ids, profile_text_ids}
 use Rattle.pp_share.specs.Gathered.{gathered, location_entry, mapping_entry, function_entry}

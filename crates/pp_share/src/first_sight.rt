@@ -1,6 +1,6 @@
 //! Numbers that are given to items at first sight.
 ghost use Rattle.std.specs.Prelude.{◌≡◌, ◌++◌, [], ◌∷◌, ◌<◌, ◌^◌, Bool, length, IfOk, OnOk, if◌then◌else◌};
-ghost use Rattle.pp_model.specs.FirstSight.{distinct, ids};
+ghost use Rattle.pp_model.specs.Words.{distinct, ids};
 
 use indexmap::IndexSet;
 use pp_base::{List, Memory};

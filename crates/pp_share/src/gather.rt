@@ -2,8 +2,7 @@
 ghost use Rattle.std.specs.Prelude.{◌≡◌, ◌≢◌, ℕ, nat_eq, IfOk, OnOk, ◌++◌};
 ghost use Rattle.std.specs.List.{IsDistinct};
 ghost use Rattle.std.specs.Option.{option_map};
-ghost use Rattle.pp_model.specs.Lookup.{place_read};
-ghost use Rattle.pp_model.specs.Lookup.{place_read};
+ghost use Rattle.pp_model.specs.Words.{place_read};
 ghost use Rattle.pp_share.specs.Gathered.{gathered, entry_at, function_entry, mapping_entry, location_entry};
 
 use crate::first_sight::with_room;

@@ -1,8 +1,8 @@
 //! The hashes of samples.
 ghost use Rattle.std.specs.Prelude.{◌≡◌, ◌+◌, ◌++◌, ℕ, List as Seq, [], nat_abs, IfOk, OnOk};
 ghost use Rattle.std.specs.List.{sum_by};
-ghost use Rattle.pp_base.specs.Capped.{capped};
-ghost use Rattle.pp_model.specs.declared.profile.Sample.{Sample as SampleValue};
+ghost use Rattle.pp_base.specs.Words.{capped};
+ghost use Rattle.pp_model.specs.Words.{Sample as SampleValue};
 ghost use Rattle.pp_share.specs.Hashes.{AreHashesBy, AddsHash};
 
 use crate::hashing::{hash_by, sample_hash};

@@ -1,7 +1,7 @@
 //! New ids for old ones. An id names an entry of a table, and 0 names none.
 ghost use Rattle.std.specs.Prelude.{◌≡◌, ◌<◌, ◌^◌, ◌+◌, ℕ, List as Seq, length};
 ghost use Rattle.std.specs.Bool.{OnTrue};
-ghost use Rattle.pp_model.specs.Lookup.{text_number};
+ghost use Rattle.pp_model.specs.Words.{text_number};
 ghost use Rattle.pp_share.specs.Ids.{known_id, place_id, listed_id, new_id, new_text, index_of_id, GivesIds, GivesTexts};
 
 use crate::behind::Behind;

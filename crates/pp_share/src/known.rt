@@ -1,7 +1,7 @@
 //! The entries of a table by their ids.
 ghost use Rattle.std.specs.Prelude.{◌≡◌, ℕ, None, length, IfOk};
 ghost use Rattle.std.specs.Bool.{OnTrue};
-ghost use Rattle.pp_model.specs.Rules.{first_repeated, AreNumbered};
+ghost use Rattle.pp_model.specs.Words.{first_repeated, AreNumbered};
 ghost use Rattle.pp_share.specs.Ids.{known_id, place_id};
 ghost use Rattle.pp_share.specs.Behind.{behind_id};
 

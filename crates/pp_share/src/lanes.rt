@@ -2,7 +2,7 @@
 ghost use Rattle.std.specs.Prelude.{◌≡◌, ℕ, ◌<◌, ◌≤◌, List as Seq, length, map, slice_index_or, OnOk, IfOk};
 ghost use Rattle.std.specs.Bool.{OnTrue};
 ghost use Rattle.std.specs.List.{AllByRecursion, flat_map};
-ghost use Rattle.pp_model.specs.declared.profile.Sample.{Sample as SampleValue};
+ghost use Rattle.pp_model.specs.Words.{Sample as SampleValue};
 ghost use Rattle.pp_share.specs.Located.{with_placed_labels, with_placed_locations, placed_from, HasLocated};
 ghost use Rattle.pp_share.specs.Renumbered.{new_ids, renumbered_sample};
 ghost use Rattle.pp_share.specs.Share.{NamesLocations};

@@ -1,6 +1,6 @@
 //! Mappings and locations that stand once.
 ghost use Rattle.std.specs.Prelude.{◌≡◌, map, length, IfOk, OnOk};
-ghost use Rattle.pp_model.specs.FirstSight.{distinct, ids};
+ghost use Rattle.pp_model.specs.Words.{distinct, ids};
 ghost use Rattle.pp_share.specs.Shared.{with_shared_places, distant_locations};
 ghost use Rattle.pp_share.specs.Ids.{GivesIds};
 ghost use Rattle.pp_share.specs.PlaceKeys.{mapping_key, start_at, distant, near, same_place, place_of_key};

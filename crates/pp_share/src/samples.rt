@@ -2,8 +2,7 @@
 ghost use Rattle.std.specs.Prelude.{◌≡◌, ℕ, ◌+◌, ◌-◌, ◌^◌, ◌<◌, ◌≤◌, [], true, pos, nat_abs, length, map, fold, filter, slice_index_or, slice_set, All};
 ghost use Rattle.std.specs.List.{list_all};
 ghost use Rattle.std.specs.Ordering.{int_eq};
-ghost use Rattle.pp_model.specs.Sizes.{value_in};
-ghost use Rattle.pp_model.specs.Values.{no_sample};
+ghost use Rattle.pp_model.specs.Words.{value_in, no_sample};
 ghost use Rattle.pp_share.specs.Sums.{added, CanSum};
 ghost use Rattle.pp_share.specs.SampleKeys.{has_values};
 ghost use Rattle.pp_share.specs.Repeats.{IsPair, with_row, with_repeat};

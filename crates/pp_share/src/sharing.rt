@@ -1,10 +1,9 @@
 //! A profile with each thing once, in the order of a walk over its samples.
 ghost use Rattle.std.specs.Prelude.{◌≡◌, ℕ, ◌-◌, ◌^◌, ◌<◌, ◌≤◌, nat_abs, length, map, All, IfOk, IfSome, OnOk};
 ghost use Rattle.std.specs.List.{filter, list_all, sum_by};
-ghost use Rattle.pp_model.specs.Sizes.{value_in};
+ghost use Rattle.pp_model.specs.Words.{value_in, ids};
 ghost use Rattle.pp_share.specs.Placed.{gist, totalled};
 ghost use Rattle.pp_share.specs.Renumbered.{NewIds, new_ids, renumbered_sample};
-ghost use Rattle.pp_model.specs.FirstSight.{ids};
 ghost use Rattle.pp_share.specs.Ids.{GivesIds};
 ghost use Rattle.pp_share.specs.Hashes.{AreHashes, AreOwnHashes, with_new_samples, with_sums};
 ghost use Rattle.pp_share.specs.Repeats.{FindsBelow, IsPair};

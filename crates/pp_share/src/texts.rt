@@ -1,7 +1,7 @@
 //! Texts that stand once.
 ghost use Rattle.std.specs.Prelude.{◌≡◌, ◌<◌, ◌^◌, length, map, IfOk, OnOk};
 ghost use Rattle.std.specs.Str.{bytes_eq};
-ghost use Rattle.pp_model.specs.FirstSight.{distinct, ids};
+ghost use Rattle.pp_model.specs.Words.{distinct, ids};
 ghost use Rattle.pp_share.specs.Ids.{GivesTexts};
 ghost use Rattle.pp_share.specs.Shared.{with_shared_texts};
 

@@ -1,6 +1,6 @@
 //! A profile's tables in the order in which a walk over its samples meets their entries.
 ghost use Rattle.std.specs.Prelude.{◌≡◌, ◌<◌, ◌≤◌, ◌^◌, [], length, IfOk, OnOk};
-ghost use Rattle.pp_model.specs.declared.profile.Profile.{Profile};
+ghost use Rattle.pp_model.specs.Words.{Profile};
 ghost use Rattle.std.specs.List.{AllByRecursion};
 ghost use Rattle.pp_share.specs.Walked.{first_id, mappings_met, with_mappings, functions_met, with_functions, with_texts, IsWalked, IsNamed};
 ghost use Rattle.pp_share.specs.Hashes.{with_new_samples};

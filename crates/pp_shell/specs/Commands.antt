@@ -2,9 +2,7 @@
 use Rattle.std.specs.Prelude.{ℕ, ℤ, pos, negsuc, Bool, true, false, ◌&&◌, List, [], ◌∷◌, drop, length, codes, Option, Some, None, Result, Ok, Err, if◌then◌else◌}
 use Rattle.std.specs.Char.{is_ascii_digit}
 use Rattle.pp_model.specs.declared.presentation.Sort.TheVariants.{Cum}
-use Rattle.pp_model.specs.declared.config.Config.{Config}
-use Rattle.pp_model.specs.declared.report.Report.{Report}
-use Rattle.pp_model.specs.ReportFacts.{is_short, is_of_labels}
+use Rattle.pp_model.specs.Words.{Config, Report, is_short, is_of_labels}
 use Rattle.pp_options.specs.declared.format.Format.{Format}
 use Rattle.pp_options.specs.declared.format.Format.TheVariants.{Flag, Pattern}
 use Rattle.pp_options.specs.declared.setting.Setting.TheVariants as settings

@@ -2,7 +2,7 @@
 use Rattle.std.specs.Prelude.{ℕ, true, List, [], ◌∷◌, Option, Some, None, option_map, Result, Ok, Err, if◌then◌else◌}
 use Rattle.std.specs.List.{list_any, before_first, after_first}
 use Rattle.std.specs.Option.{option_or}
-use Rattle.pp_model.specs.declared.config.Config.{Config}
+use Rattle.pp_model.specs.Words.{Config}
 use Rattle.pp_options.specs.declared.setting.Setting.{Setting}
 use Rattle.pp_options.specs.declared.setting.Setting.TheVariants as settings
 use Rattle.pp_options.specs.declared.variable.Variable.{Variable}
@@ -10,7 +10,7 @@ use Rattle.pp_options.specs.declared.variable.Variable.TheVariants as variables
 use Rattle.pp_options.specs.Items.{setting_of_choice}
 use Rattle.pp_options.specs.Names.{choice_named}
 use Rattle.pp_options.specs.Settings.{setting_of, assigned}
-use Rattle.pp_base.specs.Marks.{is_equals}
+use Rattle.pp_base.specs.Words.{is_equals}
 use Rattle.pp_options.specs.Variables.{variable_named}
 use Rattle.pp_shell.specs.declared.command.Command.{Command}
 use Rattle.pp_shell.specs.declared.command.Command.TheVariants as commands

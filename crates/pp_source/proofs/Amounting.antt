@@ -1,9 +1,7 @@
 -- What a ledger has of a line and of a routine.
 use Rattle.std.proofs.Common.{◌≡◌, ℕ, ◌<◌, ℤ, pos, List, [], length, map, Option, Bool, ap, ◌∙◌, sym}
-use Rattle.pp_model.specs.declared.profile.Profile.{Profile}
-use Rattle.pp_model.specs.Lookup.{text_at}
-use Rattle.pp_model.specs.FrameTexts.{Written}
-use Rattle.pp_grain.specs.Keys.{key_cmp, key_written, IsKeyOf}
+use Rattle.pp_model.specs.Words.{Profile, text_at, Written}
+use Rattle.pp_grain.specs.Words.{key_cmp, key_written, IsKeyOf}
 use Rattle.pp_count.specs.Sums.{Seen, renamed}
 use Rattle.pp_source.specs.declared.ledger.Ledger.{Ledger}
 use Rattle.pp_source.specs.declared.lines.FoundLine.{FoundLine}

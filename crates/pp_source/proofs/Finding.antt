@@ -13,15 +13,8 @@ use Rattle.std.proofs.lemmas.Map.Keys.{IsDistinct-IsPermutation}
 use Rattle.std.proofs.lemmas.Map.Views.{any-filter_same}
 use Rattle.std.proofs.Math.Bool.{and_comm}
 use Rattle.pp_base.proofs.Booleans.{same_bool}
-use Rattle.pp_model.specs.declared.profile.Profile.{Profile}
-use Rattle.pp_model.specs.Finders.{Finders}
-use Rattle.pp_model.specs.FirstSight.{place_of}
-use Rattle.pp_model.specs.FrameTexts.{Written}
-use Rattle.pp_model.specs.Judged.{judged}
-use Rattle.pp_model.specs.Rules.{IsCompact}
-use Rattle.pp_grain.specs.declared.key.Key.{Key}
-use Rattle.pp_grain.specs.Keys.{key_cmp, key_written, IsKeyOf}
-use Rattle.pp_grain.specs.Sight.{same_key}
+use Rattle.pp_model.specs.Words.{Profile, Finders, place_of, Written, judged, IsCompact}
+use Rattle.pp_grain.specs.Words.{Key, key_cmp, key_written, IsKeyOf, same_key}
 use Rattle.pp_grain.proofs.SightLemmas.{key_decides}
 use Rattle.pp_grain.proofs.CallerLemmas.{key_cmp_total, key_cmp_ties}
 use Rattle.pp_count.specs.Counted.{finds_own}

@@ -3,18 +3,9 @@ use Rattle.std.proofs.Common.{◌≡◌, ℕ, ◌<◌, ◌||◌, Bool, true, fal
 use Rattle.std.specs.Ordering.{eq_by_cmp, int_eq, nat_cmp}
 use Rattle.std.proofs.lemmas.Bool.{false≢true}
 use Rattle.std.proofs.lemmas.List.Elements.{All-filter, All-head, All-tail}
-use Rattle.pp_model.specs.declared.config.Config.{Config}
+use Rattle.pp_model.specs.Words.{Config, Profile, Grouping, Finders, place_of, Written, text_at, IsCompact}
 use Rattle.pp_model.specs.declared.grouping.Grain.TheVariants.{Lines}
-use Rattle.pp_model.specs.declared.profile.Profile.{Profile}
-use Rattle.pp_model.specs.declared.grouping.Grouping.{Grouping}
-use Rattle.pp_model.specs.Finders.{Finders}
-use Rattle.pp_model.specs.FirstSight.{place_of}
-use Rattle.pp_model.specs.FrameTexts.{Written}
-use Rattle.pp_model.specs.Lookup.{text_at}
-use Rattle.pp_model.specs.Rules.{IsCompact}
-use Rattle.pp_grain.specs.declared.key.Key.{Key}
-use Rattle.pp_grain.specs.Keys.{key_cmp, key_texts, key_written, IsKeyOf}
-use Rattle.pp_grain.specs.Sight.{same_key}
+use Rattle.pp_grain.specs.Words.{Key, key_cmp, key_texts, key_written, IsKeyOf, same_key}
 use Rattle.pp_count.specs.Counted.{report_frames}
 use Rattle.pp_count.specs.Counts.{samples_at}
 use Rattle.pp_count.specs.Parts.{HasBelow}

@@ -3,17 +3,13 @@ use Rattle.std.proofs.Common.{◌≡◌, ℕ, ◌+◌, List, [], ◌∷◌, ◌+
 use Rattle.std.specs.Prelude.{Bool, true, false, Result, Ok, Err, if◌then◌else◌}
 use Rattle.std.proofs.lemmas.List.{drop-drop}
 use Rattle.std.proofs.Math.Seq.{drop-append_seam}
-use Rattle.pp_desk.specs.declared.stop.Stop.{Stop}
+use Rattle.pp_desk.specs.Words.{Stop, World, Script, Give, Went}
 use Rattle.pp_desk.specs.declared.stop.Stop.TheVariants as stops
-use Rattle.pp_desk.specs.World.{World}
-use Rattle.pp_desk.specs.Script.{Script, Give}
-use Rattle.pp_desk.specs.Went.{Went}
 use Rattle.pp_desk.proofs.Going.{gives, wants, stops_first, goes_second, goes_give}
 use Rattle.std.specs.List.{list_any}
-use Rattle.pp_model.specs.Finders.{Finders}
-use Rattle.pp_model.specs.FrameTexts.{Written}
+use Rattle.pp_model.specs.Words.{Finders, Written, Environment}
 use Rattle.pp_count.specs.Counted.{finds_own}
-use Rattle.pp_units.specs.Head.{Facts}
+use Rattle.pp_units.specs.Words.{Facts}
 use Rattle.pp_count.specs.Sums.{Seen}
 use Rattle.pp_source.specs.declared.lines.FoundLine.{FoundLine}
 use Rattle.pp_source.specs.declared.refusal.ListRefusal.{ListRefusal}
@@ -23,7 +19,6 @@ use Rattle.pp_source.specs.Listing.{added_report, list_found, list_lines, with_r
 use Rattle.pp_source.specs.Routines.{found_lines, runs}
 use Rattle.pp_source.proofs.Matching.{is_some_item, match_is}
 use Rattle.pp_source.specs.SourceText.{file_of, routine_text}
-use Rattle.pp_model.specs.declared.environment.Environment.{Environment}
 
 -- what is left after the first part of what was left
 pub left_after : (lines : List FoundLine) (start : ℕ) (first rest left : List FoundLine) → left ≡ drop start lines → left ≡ first ++ rest → drop (start + length first) lines ≡ rest

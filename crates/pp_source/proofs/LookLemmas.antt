@@ -2,11 +2,7 @@
 use Rattle.std.proofs.Common.{◌≡◌, ◌+◌, ◌<◌, ◌≤◌, ℕ, List, length, drop, get_or, Some, None, sym, ap, subst, ◌∙◌}
 use Rattle.std.specs.Prelude.{Ok, Err}
 use Rattle.std.proofs.lemmas.List.{at_drop_more, at_drop_all}
-use Rattle.pp_desk.specs.declared.file_content.FileContent.{FileContent}
-use Rattle.pp_desk.specs.declared.stop.Stop.{Stop}
-use Rattle.pp_desk.specs.World.{World}
-use Rattle.pp_desk.specs.Script.{◌>>=◌, read_file}
-use Rattle.pp_desk.specs.Went.{Went, IsOnWay}
+use Rattle.pp_desk.specs.Words.{FileContent, Stop, World, ◌>>=◌, read_file, Went, IsOnWay}
 use Rattle.pp_desk.proofs.Looping.{arrives, moves_on}
 use Rattle.pp_desk.proofs.Going.{gives, stops_first}
 use Rattle.pp_source.specs.declared.source.FileSource.{FileSource}

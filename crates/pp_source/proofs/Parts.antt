@@ -9,15 +9,9 @@ use Rattle.std.proofs.lemmas.List.Sums.{fold-append}
 use Rattle.std.proofs.lemmas.Option.{get_or_from_slice_get, slice_get_within}
 use Rattle.pp_base.proofs.Booleans.{same_bool}
 use Rattle.pp_base.proofs.Orders.{tied_with}
-use Rattle.pp_model.specs.declared.profile.Profile.{Profile}
-use Rattle.pp_model.specs.FirstSight.{distinct, place_of, seen_after, seen_with}
+use Rattle.pp_model.specs.Words.{Profile, distinct, place_of, seen_after, seen_with, Written, text_at, IsCompact}
 use Rattle.pp_model.proofs.FirstSightLemmas.{seen-seen_after, seen_now}
-use Rattle.pp_model.specs.FrameTexts.{Written}
-use Rattle.pp_model.specs.Lookup.{text_at}
-use Rattle.pp_model.specs.Rules.{IsCompact}
-use Rattle.pp_grain.specs.declared.key.Key.{Key}
-use Rattle.pp_grain.specs.Keys.{key_cmp, key_written, IsKeyOf}
-use Rattle.pp_grain.specs.Sight.{same_key}
+use Rattle.pp_grain.specs.Words.{Key, key_cmp, key_written, IsKeyOf, same_key}
 use Rattle.pp_grain.proofs.SightLemmas.{key_decides}
 use Rattle.pp_grain.proofs.CallerLemmas.{same_keys}
 use Rattle.pp_count.specs.Table.{no_key, written_key}

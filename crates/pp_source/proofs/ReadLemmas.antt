@@ -6,16 +6,12 @@ use Rattle.std.specs.Option.{is_some, option_map, unwrap_or}
 use Rattle.std.specs.Slice.{IsItemAt}
 use Rattle.std.proofs.lemmas.Bool.{false≢true}
 use Rattle.std.proofs.lemmas.List.{at_drop_more, at_drop_all, get_or-map, get_or_past, length-map, map-append, take_more}
-use Rattle.pp_desk.specs.declared.stop.Stop.{Stop}
+use Rattle.pp_desk.specs.Words.{Stop, World, Script, Give, ◌>>=◌, Went, IsOnWay}
 use Rattle.pp_desk.specs.declared.stop.Stop.TheVariants as stops
-use Rattle.pp_desk.specs.World.{World}
-use Rattle.pp_desk.specs.Script.{Script, Give, ◌>>=◌}
-use Rattle.pp_desk.specs.Went.{Went, IsOnWay}
 use Rattle.pp_desk.proofs.Looping.{arrives, moves_on}
 use Rattle.pp_desk.proofs.Going.{gives, stops_first, wants, goes_second, goes_give}
-use Rattle.pp_model.specs.FirstSight.{seen_after, seen_with}
-use Rattle.pp_model.specs.FrameTexts.{Written}
-use Rattle.pp_units.specs.Head.{Facts}
+use Rattle.pp_model.specs.Words.{seen_after, seen_with, Written, Environment}
+use Rattle.pp_units.specs.Words.{Facts}
 use Rattle.pp_count.specs.Sums.{Seen}
 use Rattle.pp_source.specs.declared.lines.FoundLine.{FoundLine}
 use Rattle.pp_source.specs.declared.source.FileSource.{FileSource}
@@ -26,7 +22,6 @@ use Rattle.pp_source.specs.Ledgers.{line_texts, lines_texts}
 use Rattle.pp_source.specs.Listing.{list_lines, read_sources, source_of}
 use Rattle.pp_source.specs.SourceText.{lines_text}
 use Rattle.pp_source.proofs.FileLemmas.{told}
-use Rattle.pp_model.specs.declared.environment.Environment.{Environment}
 
 module _ (environment : Environment) (files : List (Bor (List ℕ))) (i : ℕ) (sources : List FileSource) (whole : Script (List FileSource)) (a b : World)
     (on_way : IsOnWay a b whole (read_sources environment sources (map told (drop i files)))) where

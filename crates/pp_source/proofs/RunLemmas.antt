@@ -2,7 +2,7 @@
 use Rattle.std.proofs.Common.{◌≡◌, ℕ, zero, suc, ◌+◌, ◌<◌, ◌≤◌, Bool, true, false, List, [], ◌∷◌, length, take, drop, get_or, refl, sym, ap, ◌∙◌, cond, arith, inl, inr}
 use Rattle.std.proofs.lemmas.Bool.{cases_order}
 use Rattle.std.proofs.lemmas.List.{get_or_default, get_or-map, length-map, take-map, drop-map}
-use Rattle.pp_model.specs.FrameTexts.{Written}
+use Rattle.pp_model.specs.Words.{Written}
 use Rattle.pp_source.specs.declared.lines.FoundLine.{FoundLine}
 use Rattle.pp_source.specs.Ledgers.{line_texts, lines_texts}
 use Rattle.pp_source.specs.Routines.{runs, onto_runs}

@@ -2,7 +2,7 @@
 use Rattle.std.proofs.Common.{◌≡◌, ℕ, ◌+◌, ◌<◌, ◌≤◌, ◌^◌, true, false, nat_abs, List, [], ◌∷◌, ◌++◌, length, take, get_or, ℤ, All, refl, sym, ap, ◌∙◌, subst, arith}
 use Rattle.std.proofs.lemmas.List.{take_more}
 use Rattle.std.proofs.lemmas.List.Sums.{sum_by_more_le}
-use Rattle.pp_model.specs.declared.profile.Sample.{Sample}
+use Rattle.pp_model.specs.Words.{Sample}
 use Rattle.pp_count.specs.Column.{selected}
 use Rattle.pp_count.specs.declared.tallies.Tallies.{Tallies}
 use Rattle.pp_count.specs.declared.tally.Tally.{Tally}

@@ -1,9 +1,7 @@
 -- Text 0 of a valid profile.
 use Rattle.std.proofs.Common.{◌≡◌, ℕ, ◌<◌, List, [], ◌∷◌, length, get_or, None, refl, sym, arith}
 use Rattle.std.proofs.lemmas.Option.{none-some}
-use Rattle.pp_model.specs.declared.profile.Profile.{Profile}
-use Rattle.pp_model.specs.Lookup.{text_at}
-use Rattle.pp_model.specs.Rules.{NoRuleFails, begins_empty, zero_unless}
+use Rattle.pp_model.specs.Words.{Profile, text_at, NoRuleFails, begins_empty, zero_unless}
 
 zero_in : (texts : List (List ℕ)) → zero_unless (begins_empty texts) ≡ None → (get_or texts 0 [] ≡ []) × (0 < length texts)
 zero_in [] none = absurd (none-some 0 (sym none))

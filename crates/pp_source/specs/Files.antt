@@ -1,7 +1,6 @@
 -- The files of a report, and their sources.
 use Rattle.std.specs.Prelude.{ℕ, List, [], ◌∷◌, map, bytes_eq, if◌then◌else◌}
-use Rattle.pp_model.specs.FirstSight.{distinct}
-use Rattle.pp_model.specs.FrameTexts.{Written}
+use Rattle.pp_model.specs.Words.{distinct, Written}
 use Rattle.pp_source.specs.declared.files.Sources.{Sources}
 use Rattle.pp_source.specs.declared.source.FileSource.{FileSource}
 use Rattle.pp_source.specs.declared.source.FileSource.TheVariants.{NotFound}

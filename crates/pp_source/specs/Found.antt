@@ -2,10 +2,8 @@
 use Rattle.std.specs.Prelude.{◌≡◌, ℕ, ℤ, pos, Bool, false, List, map, slice_index_or, Option}
 use Rattle.std.specs.List.{filter, list_any}
 use Rattle.std.specs.Option.{option_map_or}
-use Rattle.pp_model.specs.FirstSight.{distinct, place_of}
-use Rattle.pp_model.specs.FrameTexts.{Written}
-use Rattle.pp_grain.specs.declared.key.Key.{Key}
-use Rattle.pp_grain.specs.Sight.{same_key}
+use Rattle.pp_model.specs.Words.{distinct, place_of, Written}
+use Rattle.pp_grain.specs.Words.{Key, same_key}
 use Rattle.pp_source.specs.declared.found.FoundKeys.{FoundKeys}
 use Rattle.pp_source.specs.declared.found.KeyPart.{KeyPart}
 use Rattle.pp_source.specs.declared.found.KeyPart.TheVariants.{Routine, Line}

@@ -2,15 +2,8 @@
 use Rattle.std.specs.Prelude.{◌≡◌, ℕ, ◌≤◌, nat_lt, Bool, true, false, List, map, All, Option, if◌then◌else◌}
 use Rattle.std.specs.List.{filter}
 use Rattle.pp_model.specs.declared.grouping.Grain.TheVariants.{Lines}
-use Rattle.pp_model.specs.declared.profile.Profile.{Profile}
-use Rattle.pp_model.specs.declared.profile.Sample.{Sample}
-use Rattle.pp_model.specs.declared.grouping.Grouping.{Grouping}
-use Rattle.pp_model.specs.FirstSight.{place_of}
-use Rattle.pp_model.specs.FrameTexts.{Written}
-use Rattle.pp_grain.specs.declared.key.Key.{Key}
-use Rattle.pp_grain.specs.Keys.{key_cmp, key_written, IsKeyOf}
-use Rattle.pp_grain.specs.Sight.{same_key}
-use Rattle.pp_grain.specs.Told.{written_texts}
+use Rattle.pp_model.specs.Words.{Profile, Sample, Grouping, place_of, Written}
+use Rattle.pp_grain.specs.Words.{Key, key_cmp, key_written, IsKeyOf, same_key, written_texts}
 use Rattle.pp_count.specs.Scope.{AreCountable, AreSeen, IsSoundScope, samples_in_scope}
 use Rattle.pp_count.specs.declared.tallies.Tallies.{Tallies}
 use Rattle.pp_count.specs.declared.tally.Tally.{Tally}

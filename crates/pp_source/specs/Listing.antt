@@ -1,14 +1,9 @@
 -- A list report: which files it reads in which order, and its text.
 use Rattle.std.specs.Prelude.{ℕ, List, [], ◌∷◌, ◌++◌, Option, Some, None, Result, Ok, Err, if◌then◌else◌}
-use Rattle.pp_desk.specs.declared.file_content.FileContent.{FileContent}
+use Rattle.pp_desk.specs.Words.{FileContent, Script, Give, ◌>>=◌, read_file}
 use Rattle.pp_desk.specs.declared.file_content.FileContent.TheVariants as contents
-use Rattle.pp_desk.specs.Script.{Script, Give, ◌>>=◌, read_file}
-use Rattle.pp_model.specs.declared.config.Config.{Config}
-use Rattle.pp_model.specs.declared.profile.Profile.{Profile}
-use Rattle.pp_model.specs.declared.environment.Environment.{Environment}
-use Rattle.pp_model.specs.Finders.{Finders}
-use Rattle.pp_model.specs.FrameTexts.{Written}
-use Rattle.pp_units.specs.Head.{Facts}
+use Rattle.pp_model.specs.Words.{Config, Profile, Environment, Finders, Written}
+use Rattle.pp_units.specs.Words.{Facts}
 use Rattle.pp_count.specs.Sums.{Seen}
 use Rattle.pp_count.specs.Counted.{has_own_match, report_frames}
 use Rattle.pp_source.specs.declared.refusal.ListRefusal.{ListRefusal}

@@ -1,9 +1,8 @@
 -- The lines that a report's own pattern finds, in order, and the routines that they belong to.
 use Rattle.std.specs.Prelude.{Bool, ◌&&◌, List, [], ◌∷◌, map, flat_map, bytes_eq, if◌then◌else◌}
 use Rattle.std.specs.List.{filter}
-use Rattle.pp_model.specs.Finders.{Finders}
-use Rattle.pp_model.specs.FrameTexts.{Written}
-use Rattle.pp_grain.specs.Keys.{key_cmp}
+use Rattle.pp_model.specs.Words.{Finders, Written}
+use Rattle.pp_grain.specs.Words.{key_cmp}
 use Rattle.pp_count.specs.Counted.{finds_own}
 use Rattle.pp_count.specs.Ranks.{each_once}
 use Rattle.pp_count.specs.Sums.{Seen}

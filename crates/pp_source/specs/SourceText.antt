@@ -2,11 +2,8 @@
 use Rattle.std.specs.Prelude.{ℕ, ◌+◌, ℤ, pos, negsuc, zero, suc, Bool, ◌==◌, ◌&&◌, nat_le, nat_lt, List, [], ◌∷◌, ◌++◌, length, codes, decimal, flat_map, Option, Some, None, if◌then◌else◌}
 use Rattle.std.specs.List.{filter_map}
 use Rattle.std.specs.Ordering.{int_eq}
-use Rattle.pp_units.specs.Head.{Facts}
-use Rattle.pp_units.specs.Numbers.{value_text, percent_text, right_text}
-use Rattle.pp_units.specs.Rows.{value_column}
-use Rattle.pp_units.specs.Shown.{Shown}
-use Rattle.pp_model.specs.FrameTexts.{Written}
+use Rattle.pp_units.specs.Words.{Facts, value_text, percent_text, right_text, value_column, Shown}
+use Rattle.pp_model.specs.Words.{Written}
 use Rattle.pp_count.specs.Sums.{Seen}
 use Rattle.pp_source.specs.declared.source.FileSource.{FileSource}
 use Rattle.pp_source.specs.declared.source.FileSource.TheVariants.{NoName, NotFound, TooLong, Whole}

@@ -1,7 +1,7 @@
 //! The files of a list report, and their sources.
 ghost use Rattle.std.specs.Prelude.{◌≡◌, [], map, IfOk};
 ghost use Rattle.std.specs.Option.{option_map, unwrap_or};
-ghost use Rattle.pp_desk.specs.Went.{Went};
+ghost use Rattle.pp_desk.specs.Words.{Went};
 ghost use Rattle.pp_source.specs.declared.source.FileSource.TheVariants as sources;
 ghost use Rattle.pp_source.specs.Files.{files_of_lines, source_in};
 ghost use Rattle.pp_source.specs.Ledgers.{lines_texts};

@@ -1,9 +1,7 @@
 //! The lines and the routines that a report's own pattern finds, by number.
 ghost use Rattle.std.specs.Prelude.{◌≡◌, map, All, IfOk};
-ghost use Rattle.pp_model.specs.Conditions.{HasOnePerText};
-ghost use Rattle.pp_model.specs.FirstSight.{place_of};
-ghost use Rattle.pp_grain.specs.Keys.{IsKeyOf};
-ghost use Rattle.pp_grain.specs.Sight.{same_key};
+ghost use Rattle.pp_model.specs.Words.{HasOnePerText, place_of};
+ghost use Rattle.pp_grain.specs.Words.{IsKeyOf, same_key};
 ghost use Rattle.pp_source.specs.Found.{IsFoundOf, has_own_function, key_at, part_key, part_number, found_parts};
 
 use indexmap::IndexSet;

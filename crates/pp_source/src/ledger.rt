@@ -1,6 +1,6 @@
 //! What samples come to in the lines and in the routines that a report's own pattern finds.
 ghost use Rattle.std.specs.Prelude.{◌≡◌, IfOk, Some};
-ghost use Rattle.pp_model.specs.Finders.{Finders};
+ghost use Rattle.pp_model.specs.Words.{Finders};
 ghost use Rattle.pp_count.specs.Counted.{report_frames};
 ghost use Rattle.pp_count.specs.Scope.{AreCountable, IsSoundScope, chosen_of, config_of, samples_in_scope};
 ghost use Rattle.pp_count.specs.Seeing.{HoldsFilters, filtered_from};

@@ -1,10 +1,8 @@
 //! The lines that a report's own pattern finds.
 ghost use Rattle.std.specs.Prelude.{◌≡◌, List as Seq, map, All, IfOk};
 ghost use Rattle.std.specs.List.{IsDistinct};
-ghost use Rattle.pp_model.specs.Finders.{Finders};
-ghost use Rattle.pp_model.specs.FrameTexts.{Written};
-ghost use Rattle.pp_model.specs.Judged.{judged};
-ghost use Rattle.pp_grain.specs.Sight.{same_key};
+ghost use Rattle.pp_model.specs.Words.{Finders, Written, judged};
+ghost use Rattle.pp_grain.specs.Words.{same_key};
 ghost use Rattle.pp_count.specs.Sums.{Seen};
 ghost use Rattle.pp_source.specs.Ledgers.{AreFound, IsLedgerOf, IsLineOf, keys_seen, lines_texts};
 ghost use Rattle.pp_source.specs.Routines.{found_lines};

@@ -1,9 +1,8 @@
 //! The list report.
 ghost use Rattle.std.specs.Prelude.{◌≡◌, ◌++◌, List as Seq, map, All, IfOk, OnErr};
-ghost use Rattle.pp_desk.specs.Went.{Went, beside};
-ghost use Rattle.pp_model.specs.Finders.{Finders};
-ghost use Rattle.pp_model.specs.FrameTexts.{Written};
-ghost use Rattle.pp_units.specs.Head.{facts};
+ghost use Rattle.pp_desk.specs.Words.{Went, beside};
+ghost use Rattle.pp_model.specs.Words.{Finders, Written};
+ghost use Rattle.pp_units.specs.Words.{facts};
 ghost use Rattle.pp_count.specs.Counted.{report_frames};
 ghost use Rattle.pp_count.specs.Sums.{Seen};
 ghost use Rattle.pp_count.specs.Seeing.{HoldsFilters};

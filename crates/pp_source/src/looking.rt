@@ -1,6 +1,6 @@
 //! Looking for the source of a file.
 ghost use Rattle.std.specs.Prelude.{◌≡◌};
-ghost use Rattle.pp_desk.specs.Went.{Went};
+ghost use Rattle.pp_desk.specs.Words.{Went};
 ghost use Rattle.pp_source.specs.Listing.{first_present, source_found, source_of};
 
 use crate::paths::paths_to_try;

@@ -1,9 +1,8 @@
 //! The text of a routine.
 ghost use Rattle.std.specs.Prelude.{◌≡◌, ◌++◌, ◌<◌, ◌^◌, [], codes, List as Seq, All, IfOk};
 ghost use Rattle.std.specs.List.{cons_option};
-ghost use Rattle.pp_model.specs.FrameTexts.{Written};
-ghost use Rattle.pp_units.specs.Head.{facts};
-ghost use Rattle.pp_units.specs.Shown.{shown};
+ghost use Rattle.pp_model.specs.Words.{Written};
+ghost use Rattle.pp_units.specs.Words.{facts, shown};
 ghost use Rattle.pp_count.specs.Sums.{Seen};
 ghost use Rattle.pp_source.specs.Amounts.{routine_amounts};
 ghost use Rattle.pp_source.specs.Ledgers.{IsLineIn, ListsOf, line_texts, lines_texts};

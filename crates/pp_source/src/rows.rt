@@ -1,8 +1,7 @@
 //! The lines of source of one routine.
 ghost use Rattle.std.specs.Prelude.{◌≡◌, ◌++◌, ◌<◌, ◌^◌, ◌+◌, ◌≤◌, ◌&&◌, ℕ, nat_le, nat_lt, List as Seq, map, flat_map, All, IfOk};
-ghost use Rattle.pp_model.specs.FrameTexts.{Written};
-ghost use Rattle.pp_units.specs.Shown.{shown};
-ghost use Rattle.pp_units.specs.Head.{facts};
+ghost use Rattle.pp_model.specs.Words.{Written};
+ghost use Rattle.pp_units.specs.Words.{shown, facts};
 ghost use Rattle.pp_count.specs.Sums.{Seen};
 ghost use Rattle.pp_source.specs.Ledgers.{IsLineIn, ListsOf, line_texts};
 ghost use Rattle.pp_source.specs.SourceText.{is_near, line_row, numbered_text, past_row, row_text, rows_text, shown_rows, sum_column, sums_text};

@@ -2,9 +2,7 @@
 use Rattle.std.proofs.Common.{◌≡◌, Bool, List, sym}
 use Rattle.std.specs.Prelude.{Option, Some, None}
 use Rattle.std.proofs.lemmas.Option.{none-some, same_Some}
-use Rattle.pp_model.specs.declared.profile.Profile.{Profile}
-use Rattle.pp_model.specs.Finders.{Finder}
-use Rattle.pp_model.specs.Judged.{judged}
+use Rattle.pp_model.specs.Words.{Profile, Finder, judged}
 use Rattle.pp_stack.specs.Filters.{AreVerdicts}
 
 -- what holds of each pattern with these verdicts holds of a pattern that is judged by them

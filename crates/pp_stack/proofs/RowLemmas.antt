@@ -2,10 +2,7 @@
 use Rattle.std.proofs.Common.{◌≡◌, ℕ, ◌<◌, List, [], ◌∷◌, length, get_or, Option, Some, None, refl, arith}
 use Rattle.std.specs.Option.{unwrap_or}
 use Rattle.std.proofs.lemmas.List.FromFn.{length-map-range_with_len, get_or-map-range_with_len}
-use Rattle.pp_model.specs.declared.frame.Frame.{Frame}
-use Rattle.pp_model.specs.declared.profile.Line.{Line}
-use Rattle.pp_model.specs.Conditions.{IsRowOf}
-use Rattle.pp_model.specs.Frames.{rows, row_frame}
+use Rattle.pp_model.specs.Words.{Frame, Line, IsRowOf, rows, row_frame}
 
 -- the frame of the row, which stands at that place of the location's rows
 pub frame_in : (location : ℕ) (lines : List Line) (row : Option ℕ) (d : Frame) → IsRowOf lines row

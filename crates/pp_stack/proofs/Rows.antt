@@ -1,8 +1,7 @@
 -- The worked stacks of the filters, leaf first: a frame is a letter, the name of its function.
 use Rattle.std.proofs.Common.{◌≡◌, ℕ, List, [], ◌∷◌, refl}
 use Rattle.std.specs.Prelude.{pos, codes, bytes_eq, Option, Some, None}
-use Rattle.pp_model.specs.Finders.{Finder, Finders, no_parts}
-use Rattle.pp_model.specs.FrameTexts.{Written}
+use Rattle.pp_model.specs.Words.{Finder, Finders, no_parts, Written}
 use Rattle.pp_stack.specs.Filters.{filtered}
 
 -- a frame of the function of this name

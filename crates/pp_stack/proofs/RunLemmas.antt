@@ -5,7 +5,7 @@ use Rattle.std.specs.Bool.{beq}
 use Rattle.std.specs.List.{suffix_len, position_or_len}
 use Rattle.std.proofs.lemmas.Bool.{lt-ltb, le-ltb, ne_eqb, cond-true, cond-false}
 use Rattle.std.proofs.lemmas.List.Sums.{suffix_len_is, position_or_len_is}
-use Rattle.pp_model.specs.declared.frame.Frame.{Frame}
+use Rattle.pp_model.specs.Words.{Frame}
 use Rattle.pp_stack.specs.Runs.{through_last, as_wanted}
 
 -- a frame, where one must be named

@@ -3,8 +3,7 @@ use Rattle.std.proofs.Common.{◌≡◌, Bool, true, false, not, ◌&&◌, cond,
 use Rattle.std.specs.Prelude.{Option, Some, None, option_map}
 use Rattle.std.specs.List.{list_any}
 use Rattle.std.specs.Option.{option_map_or}
-use Rattle.pp_model.specs.Finders.{Finder, Finders}
-use Rattle.pp_model.specs.FrameTexts.{Written}
+use Rattle.pp_model.specs.Words.{Finder, Finders, Written}
 use Rattle.pp_stack.specs.Filters.{finds_frame, finds_function, is_prunable, load_pruned, is_kept, not_hidden, frames_shown, cut, shown_from, pruned_from, has_no_items, left_of_cut, kept_frames, filtered}
 use Rattle.pp_stack.proofs.ToldLemmas.{list_any-map, filter-map, up_to_last-map, from_first-map, pruned-map}
 

@@ -5,13 +5,7 @@ use Rattle.std.specs.Option.{unwrap_or}
 use Rattle.std.proofs.lemmas.Bool.{cases_lt}
 use Rattle.std.proofs.lemmas.List.{get_or-map, get_or_append_left, get_or-append-add}
 use Rattle.std.proofs.Math.Seq.{drop-append_seam, get_or-append_seam}
-use Rattle.pp_model.specs.declared.frame.Frame.{Frame}
-use Rattle.pp_model.specs.declared.profile.Line.{Line}
-use Rattle.pp_model.specs.declared.profile.Profile.{Profile}
-use Rattle.pp_model.specs.Conditions.{IsFrameOf}
-use Rattle.pp_model.specs.Finders.{Finder}
-use Rattle.pp_model.specs.Frames.{rows, row_frame, lines_at}
-use Rattle.pp_model.specs.FrameTexts.{written}
+use Rattle.pp_model.specs.Words.{Frame, Line, Profile, IsFrameOf, Finder, rows, row_frame, lines_at, written}
 use Rattle.pp_stack.specs.declared.table.VerdictTable.{VerdictTable}
 use Rattle.pp_stack.specs.Filters.{AreVerdicts, finds_frame}
 use Rattle.pp_stack.specs.Tables.{HasVerdict, IsVerdictTable, verdict_place}

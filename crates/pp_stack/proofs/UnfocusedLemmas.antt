@@ -7,12 +7,7 @@ use Rattle.std.proofs.Math.Bool.{or-false}
 use Rattle.std.proofs.lemmas.List.{drop_more, take-append-drop}
 use Rattle.std.proofs.lemmas.List.Folds.{list_any-append}
 use Rattle.std.proofs.lemmas.List.FromFn.{map-range_with_len_more}
-use Rattle.pp_model.specs.declared.frame.Frame.{Frame}
-use Rattle.pp_model.specs.declared.profile.Line.{Line}
-use Rattle.pp_model.specs.declared.profile.Profile.{Profile}
-use Rattle.pp_model.specs.Finders.{Finder, Finders}
-use Rattle.pp_model.specs.Frames.{rows, row_frame, frames_from, lines_at}
-use Rattle.pp_model.specs.FrameTexts.{Written}
+use Rattle.pp_model.specs.Words.{Frame, Line, Profile, Finder, Finders, rows, row_frame, frames_from, lines_at, Written}
 use Rattle.pp_stack.specs.Runs.{pruned_len}
 use Rattle.pp_stack.specs.Filters.{finds_frame, is_prunable, load_pruned, is_kept, left_of_cut, filtered}
 use Rattle.pp_stack.proofs.StageLemmas.{filtered-map}

@@ -3,12 +3,7 @@
 use Rattle.std.specs.Prelude.{◌≡◌, Bool, true, false, not, ◌&&◌, ◌||◌, List, [], ◌∷◌, map, filter, Option, Some, None, option_map, if◌then◌else◌}
 use Rattle.std.specs.List.{list_any}
 use Rattle.std.specs.Option.{option_map_or}
-use Rattle.pp_model.specs.declared.frame.Frame.{Frame}
-use Rattle.pp_model.specs.declared.profile.Sample.{Sample}
-use Rattle.pp_model.specs.declared.profile.Profile.{Profile}
-use Rattle.pp_model.specs.Finders.{Finder, Finders}
-use Rattle.pp_model.specs.Frames.{stack_of}
-use Rattle.pp_model.specs.FrameTexts.{Written, written, written_stack}
+use Rattle.pp_model.specs.Words.{Frame, Sample, Profile, Finder, Finders, stack_of, Written, written, written_stack}
 use Rattle.pp_stack.specs.Runs.{up_to_last, from_first, pruned_frames}
 
 -- the verdicts are what the pattern finds of the profile's texts

@@ -1,8 +1,6 @@
 -- What the patterns of a loaded profile find, as far as its verdicts tell.
 use Rattle.std.specs.Prelude.{ℕ, Bool, false, List, [], ◌∷◌, option_map, bytes_eq, if◌then◌else◌}
-use Rattle.pp_model.specs.declared.loaded.Loaded.{Loaded}
-use Rattle.pp_model.specs.declared.profile.Profile.{Profile}
-use Rattle.pp_model.specs.Finders.{Finder, Finders, no_finders}
+use Rattle.pp_model.specs.Words.{Loaded, Profile, Finder, Finders, no_finders}
 
 -- the verdict on a text, by those on these texts; no other text is found
 abbrev pub known_verdict : List (List ℕ) → List Bool → List ℕ → Bool

@@ -2,13 +2,7 @@
 use Rattle.std.specs.Prelude.{◌≡◌, ℕ, ◌+◌, ◌<◌, Bool, false, List, length, slice_index_or, Option}
 use Rattle.std.specs.List.{list_any}
 use Rattle.std.specs.Option.{ForSome, unwrap_or}
-use Rattle.pp_model.specs.declared.frame.Frame.{Frame}
-use Rattle.pp_model.specs.declared.profile.Profile.{Profile}
-use Rattle.pp_model.specs.declared.verdicts.Verdicts.{Verdicts}
-use Rattle.pp_model.specs.Conditions.{IsFrameOf}
-use Rattle.pp_model.specs.Finders.{Finder}
-use Rattle.pp_model.specs.Frames.{rows, lines_at}
-use Rattle.pp_model.specs.FrameTexts.{written}
+use Rattle.pp_model.specs.Words.{Frame, Profile, Verdicts, IsFrameOf, Finder, rows, lines_at, written}
 use Rattle.pp_stack.specs.declared.table.VerdictTable.{VerdictTable}
 use Rattle.pp_stack.specs.declared.tables.VerdictTables.{VerdictTables}
 use Rattle.pp_stack.specs.Filters.{AreVerdicts, finds_frame}

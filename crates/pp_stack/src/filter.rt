@@ -1,10 +1,7 @@
 //! All stack filters in their order.
 
 ghost use Rattle.std.specs.Prelude.{◌≡◌, map, option_map, Some, true, IfOk, IfSome};
-ghost use Rattle.pp_model.specs.Conditions.{IsStackOf, HasVerdicts, RefersTo};
-ghost use Rattle.pp_model.specs.Finders.{Finders, HoldsFinders};
-ghost use Rattle.pp_model.specs.Frames.{stack_of};
-ghost use Rattle.pp_model.specs.FrameTexts.{written};
+ghost use Rattle.pp_model.specs.Words.{IsStackOf, HasVerdicts, RefersTo, Finders, HoldsFinders, stack_of, written};
 ghost use Rattle.pp_stack.specs.Runs.{kept_if};
 ghost use Rattle.pp_stack.specs.Filters.{filtered, is_kept, kept_frames, left_of_cut, frames_of_sample, stack_of_sample};
 ghost use Rattle.pp_stack.specs.Tables.{AreTables};

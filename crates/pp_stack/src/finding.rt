@@ -2,10 +2,7 @@
 
 ghost use Rattle.std.specs.Prelude.{◌≡◌, length, Some, false};
 ghost use Rattle.std.specs.Option.{ForSome, option_map_or};
-ghost use Rattle.pp_model.specs.Conditions.{IsFrameOf};
-ghost use Rattle.pp_model.specs.Finders.{Finder, Finders};
-ghost use Rattle.pp_model.specs.FrameTexts.{written};
-ghost use Rattle.pp_model.specs.Judged.{judged};
+ghost use Rattle.pp_model.specs.Words.{IsFrameOf, Finder, Finders, written, judged};
 ghost use Rattle.pp_stack.specs.Filters.{AreVerdicts, finds_frame, finds_function, is_prunable};
 ghost use Rattle.pp_stack.specs.Tables.{IsVerdictTable};
 

@@ -1,9 +1,7 @@
 //! A stack that is cut in place.
 
 ghost use Rattle.std.specs.Prelude.{◌≡◌, ◌≤◌, length, take, drop, filter};
-ghost use Rattle.pp_model.specs.Conditions.{IsStackOf};
-ghost use Rattle.pp_model.specs.Finders.{Finder};
-ghost use Rattle.pp_model.specs.FrameTexts.{written};
+ghost use Rattle.pp_model.specs.Words.{IsStackOf, Finder, written};
 ghost use Rattle.std.specs.Option.{ForSome};
 ghost use Rattle.pp_stack.specs.Runs.{as_wanted};
 ghost use Rattle.pp_stack.specs.Filters.{AreVerdicts, finds_frame};

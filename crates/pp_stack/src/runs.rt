@@ -3,10 +3,7 @@
 ghost use Rattle.std.specs.Prelude.{◌≡◌, ◌<◌, ◌≤◌, length, position, IfSome};
 ghost use Rattle.std.specs.List.{list_any};
 ghost use Rattle.std.specs.Option.{ForSome};
-ghost use Rattle.pp_model.specs.Conditions.{IsStackOf};
-ghost use Rattle.pp_model.specs.Finders.{Finder, Finders};
-ghost use Rattle.pp_model.specs.FrameTexts.{written};
-ghost use Rattle.pp_model.specs.Judged.{judged};
+ghost use Rattle.pp_model.specs.Words.{IsStackOf, Finder, Finders, written, judged};
 ghost use Rattle.pp_stack.specs.Runs.{through_last, as_wanted, pruned_len};
 ghost use Rattle.pp_stack.specs.Filters.{AreVerdicts, finds_frame, finds_function, is_prunable};
 ghost use Rattle.pp_stack.specs.Tables.{IsVerdictTable};

@@ -2,11 +2,7 @@
 ghost use Rattle.std.specs.Prelude.{◌≡◌, ◌<◌, length, true, None, Option};
 ghost use Rattle.std.specs.List.{list_any};
 ghost use Rattle.std.specs.Option.{ForSome, option_map_or};
-ghost use Rattle.pp_model.specs.Conditions.{HasOnePerText, HasVerdicts, RefersTo};
-ghost use Rattle.pp_model.specs.Finders.{Finder, Finders, HoldsFinders};
-ghost use Rattle.pp_model.specs.Frames.{rows, lines_at, stack_of};
-ghost use Rattle.pp_model.specs.FrameTexts.{written};
-ghost use Rattle.pp_model.specs.Judged.{judged};
+ghost use Rattle.pp_model.specs.Words.{HasOnePerText, HasVerdicts, RefersTo, Finder, Finders, HoldsFinders, rows, lines_at, stack_of, written, judged};
 ghost use Rattle.pp_stack.specs.Filters.{AreVerdicts, finds_frame, frames_of_sample, is_kept, stack_of_sample};
 ghost use Rattle.pp_stack.specs.Tables.{AreTables, FitsPattern, IsVerdictTable};
 

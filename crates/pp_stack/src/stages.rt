@@ -3,10 +3,7 @@
 ghost use Rattle.std.specs.Prelude.{◌≡◌, map, filter, Option, is_some, unwrap_or, []};
 ghost use Rattle.std.specs.List.{list_any};
 ghost use Rattle.std.specs.Option.{option_map_or};
-ghost use Rattle.pp_model.specs.Conditions.{IsStackOf, HasVerdicts, HasOnePerText};
-ghost use Rattle.pp_model.specs.Finders.{Finder, Finders, HoldsFinders};
-ghost use Rattle.pp_model.specs.FrameTexts.{written};
-ghost use Rattle.pp_model.specs.Judged.{judged};
+ghost use Rattle.pp_model.specs.Words.{IsStackOf, HasVerdicts, HasOnePerText, Finder, Finders, HoldsFinders, written, judged};
 ghost use Rattle.pp_stack.specs.Runs.{as_wanted};
 ghost use Rattle.pp_stack.specs.Filters.{finds_frame, load_pruned, is_kept, cut, shown_from, pruned_from};
 ghost use Rattle.pp_stack.specs.Tables.{AreTables, FitsPattern};

@@ -1,10 +1,7 @@
 //! What one pattern finds of each line of a profile's locations.
 ghost use Rattle.std.specs.Prelude.{◌≡◌, ◌<◌, ◌≤◌, ◌+◌, ◌++◌, length, map, drop, slice_index_or, IfOk, false};
 ghost use Rattle.std.specs.List.{list_any};
-ghost use Rattle.pp_model.specs.Conditions.{IsStackOf};
-ghost use Rattle.pp_model.specs.Finders.{Finder};
-ghost use Rattle.pp_model.specs.Frames.{rows, lines_at};
-ghost use Rattle.pp_model.specs.FrameTexts.{written};
+ghost use Rattle.pp_model.specs.Words.{IsStackOf, Finder, rows, lines_at, written};
 ghost use Rattle.pp_stack.specs.Filters.{AreVerdicts, finds_frame};
 ghost use Rattle.pp_stack.specs.Tables.{IsVerdictTable, verdict_place};
 

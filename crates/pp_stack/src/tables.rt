@@ -1,8 +1,6 @@
 //! The tables of a report's patterns on frames.
 ghost use Rattle.std.specs.Prelude.{IfOk};
-ghost use Rattle.pp_model.specs.declared.verdicts.Verdicts.{Verdicts};
-ghost use Rattle.pp_model.specs.declared.profile.Profile.{Profile};
-ghost use Rattle.pp_model.specs.Conditions.{HasOnePerText, HasVerdicts};
+ghost use Rattle.pp_model.specs.Words.{Verdicts, Profile, HasOnePerText, HasVerdicts};
 ghost use Rattle.pp_stack.specs.Tables.{AreTables, FitsPattern};
 
 use crate::table::VerdictTable;

@@ -1,7 +1,7 @@
 //! A lane's place at one deque.
 ghost use Rattle.std.specs.Prelude.{◌≡◌, ◌≤◌, [], ◌∷◌, IfSome, IfNone};
 ghost use Rattle.crossbeam_deque.specs.Handles.{view, IsPassOf, SamePass, stealer_deque};
-ghost use Rattle.pp_base.specs.Fault.{Rose};
+ghost use Rattle.pp_base.specs.Words.{Rose};
 ghost use Rattle.pp_steal.specs.declared.view.Role.TheVariants.{Guest};
 ghost use Rattle.pp_steal.specs.Pool.{TakesPieces};
 

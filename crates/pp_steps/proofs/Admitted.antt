@@ -10,8 +10,7 @@ use Rattle.std.proofs.lemmas.Bool.Decides.{Decides-and, Decides-like}
 use Rattle.std.proofs.lemmas.Option.{none-some}
 use Rattle.std.proofs.lemmas.Slice.Eq.{bytes_eq-Decides, slice_eq-Decides}
 use Rattle.pp_base.proofs.Lists.{all_by}
-use Rattle.pp_model.specs.declared.profile.Profile.{Profile}
-use Rattle.pp_model.specs.Sizes.{absolute_sum}
+use Rattle.pp_model.specs.Words.{Profile, absolute_sum}
 use Rattle.pp_share.specs.Header.{TypeText, type_text}
 use Rattle.pp_share.proofs.NumberedLemmas.{all_both, all_mapped, all_parts}
 use Rattle.pp_merge.specs.declared.refusal.What.{What}

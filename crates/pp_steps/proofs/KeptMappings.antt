@@ -4,7 +4,7 @@ use Rattle.std.specs.Prelude.{ℤ, Option, None, Some}
 use Rattle.std.specs.List.{AllByRecursion, list_any}
 use Rattle.std.specs.Option.{option_eq, option_map}
 use Rattle.pp_base.proofs.Lists.{all_by}
-use Rattle.pp_model.specs.declared.profile.Profile.{Profile}
+use Rattle.pp_model.specs.Words.{Profile}
 use Rattle.pp_model.proofs.FirstSightLemmas.{IsSeen}
 use Rattle.pp_share.specs.Described.{MappingText, LocationText, SampleText, mapping_text, samples_found}
 use Rattle.pp_share.specs.Alike.{same_mapping, equal_mapping, same_sample, first_alike}

@@ -5,9 +5,7 @@ use Rattle.std.specs.List.{AllByRecursion, flat_map, list_all, list_any}
 use Rattle.std.specs.Option.{option_eq, option_map, option_map_or, option_to_list}
 use Rattle.std.specs.Ordering.{int_eq}
 use Rattle.pp_base.proofs.Lists.{all_by}
-use Rattle.pp_model.specs.declared.profile.Location.{Location}
-use Rattle.pp_model.specs.declared.profile.Profile.{Profile}
-use Rattle.pp_model.specs.Lookup.{text_of, location_with}
+use Rattle.pp_model.specs.Words.{Location, Profile, text_of, location_with}
 use Rattle.pp_share.specs.Described.{MappingText, LocationText, mapping_text, function_found, mapping_found, less, line_text, location_found, location_text, nowhere, sample_text, samples_found, start_of}
 use Rattle.pp_share.specs.Alike.{equal_mapping, same_location, first_alike}
 use Rattle.pp_share.specs.Written.{Contents, mappings, locations, written, written_sample}

@@ -7,7 +7,7 @@ use Rattle.std.specs.Option.{option_to_list, unwrap_or}
 use Rattle.std.proofs.lemmas.Int.{ints}
 use Rattle.std.proofs.lemmas.List.{length-map}
 use Rattle.pp_base.proofs.Lists.{all_by}
-use Rattle.pp_model.specs.FirstSight.{distinct}
+use Rattle.pp_model.specs.Words.{distinct}
 use Rattle.pp_share.specs.Alike.{same_mapping, same_sample, first_alike}
 use Rattle.pp_share.specs.Described.{MappingText, SampleText, samples_found}
 use Rattle.pp_share.specs.Header.{type_text}

@@ -7,11 +7,7 @@ use Rattle.std.proofs.lemmas.Option.{none-some, same_Some}
 use Rattle.std.proofs.lemmas.Simd.{map-map}
 use Rattle.pp_base.proofs.Booleans.{same_bool}
 use Rattle.pp_base.proofs.Lists.{all_by, map_agree}
-use Rattle.pp_model.specs.declared.profile.Mapping.{Mapping}
-use Rattle.pp_model.specs.declared.profile.Sample.{Sample}
-use Rattle.pp_model.specs.declared.profile.Location.{Location}
-use Rattle.pp_model.specs.declared.profile.Profile.{Profile}
-use Rattle.pp_model.specs.Lookup.{text_of, location_with}
+use Rattle.pp_model.specs.Words.{Mapping, Sample, Location, Profile, text_of, location_with}
 use Rattle.pp_share.specs.Described.{MappingText, LocationText, SampleText, function_found, mapping_text, mapping_found, location_text, location_found, sample_text, samples_found, nowhere}
 use Rattle.pp_share.specs.Alike.{same_mapping, same_sample, first_alike}
 use Rattle.pp_share.specs.Sums.{counts}

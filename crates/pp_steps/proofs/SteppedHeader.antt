@@ -13,9 +13,7 @@ use Rattle.std.proofs.lemmas.List.Sums.{fold-append}
 use Rattle.std.proofs.lemmas.Simd.{map-map}
 use Rattle.std.proofs.lemmas.Slice.Eq.{bytes_eq-Decides}
 use Rattle.pp_base.proofs.Lists.{all_by, map_agree}
-use Rattle.pp_model.specs.declared.profile.Profile.{Profile}
-use Rattle.pp_model.specs.FirstSight.{seen_after, distinct}
-use Rattle.pp_model.specs.Lookup.{text_of}
+use Rattle.pp_model.specs.Words.{Profile, seen_after, distinct, text_of}
 use Rattle.pp_share.specs.Header.{HeaderText, greater, earlier, first_nonempty, header_of}
 use Rattle.pp_share.proofs.EntryLemmas.{nonempty_same}
 use Rattle.pp_share.proofs.NumberedLemmas.{all_parts}

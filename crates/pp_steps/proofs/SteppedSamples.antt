@@ -7,8 +7,7 @@ use Rattle.std.proofs.lemmas.Grind.{flat_map-append}
 use Rattle.std.proofs.lemmas.List.{length-map}
 use Rattle.std.proofs.lemmas.List.Folds.{flat_map-map}
 use Rattle.pp_base.proofs.Lists.{all_by}
-use Rattle.pp_model.specs.declared.profile.Profile.{Profile}
-use Rattle.pp_model.specs.FirstSight.{distinct}
+use Rattle.pp_model.specs.Words.{Profile, distinct}
 use Rattle.pp_share.specs.Described.{MappingText, SampleText, mapping_text, samples_found}
 use Rattle.pp_share.specs.Alike.{same_location, same_mapping, equal_mapping, same_sample, first_alike}
 use Rattle.pp_share.specs.Header.{type_text}

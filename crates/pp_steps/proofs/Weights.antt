@@ -8,7 +8,7 @@ use Rattle.std.proofs.Math.IntN.{pos-+ℤ-pos}
 use Rattle.std.proofs.lemmas.Bool.{not-false}
 use Rattle.std.proofs.lemmas.Bool.Decides.{Decides-int_eq}
 use Rattle.pp_base.proofs.Lists.{all_by}
-use Rattle.pp_model.specs.FirstSight.{distinct}
+use Rattle.pp_model.specs.Words.{distinct}
 use Rattle.pp_model.proofs.FirstSightLemmas.{IsSeen}
 use Rattle.pp_share.specs.Alike.{same_sample, first_alike}
 use Rattle.pp_share.specs.Described.{samples_found}

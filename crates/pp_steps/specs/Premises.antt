@@ -3,7 +3,7 @@ use Rattle.std.specs.Prelude.{◌≡◌, ◌<◌, ◌^◌, ◌≤ℤ◌, ℕ, po
 use Rattle.std.specs.List.{AllByRecursion, list_all, list_any}
 use Rattle.std.specs.Option.{option_eq, option_to_list}
 use Rattle.std.specs.Ordering.{int_eq}
-use Rattle.pp_model.specs.declared.profile.Profile.{Profile}
+use Rattle.pp_model.specs.Words.{Profile}
 use Rattle.pp_share.specs.Alike.{same_mapping, equal_mapping, same_sample, first_alike}
 use Rattle.pp_share.specs.Described.{MappingText, LocationText, mapping_text, samples_found}
 use Rattle.pp_share.specs.Sums.{counts, summed}

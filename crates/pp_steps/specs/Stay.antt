@@ -1,7 +1,7 @@
 -- What stays where profiles are merged in groups, and the merges of the groups merged.
 use Rattle.std.specs.Prelude.{◌≡◌, ℕ, ℤ, true, List, ◌∷◌, ◌++◌, map}
 use Rattle.std.specs.List.{list_any}
-use Rattle.pp_model.specs.declared.profile.Profile.{Profile}
+use Rattle.pp_model.specs.Words.{Profile}
 use Rattle.pp_share.specs.Described.{MappingText, SampleText}
 use Rattle.pp_share.specs.Alike.{same_sample, first_alike}
 use Rattle.pp_share.specs.Sums.{keys_of, sum_of}

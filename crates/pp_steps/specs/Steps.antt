@@ -2,7 +2,7 @@
 use Rattle.std.specs.Prelude.{ℤ, List, ◌∷◌, ◌++◌, map}
 use Rattle.std.specs.List.{flat_map}
 use Rattle.std.specs.Option.{option_map}
-use Rattle.pp_model.specs.declared.profile.Profile.{Profile}
+use Rattle.pp_model.specs.Words.{Profile}
 use Rattle.pp_share.specs.Described.{MappingText, LocationText, SampleText}
 use Rattle.pp_merge.specs.Merge.{merged}
 

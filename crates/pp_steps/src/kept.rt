@@ -1,6 +1,6 @@
 //! What any merge keeps.
 ghost use Rattle.pp_merge.specs.Merge.{all_samples, contents};
-ghost use Rattle.pp_model.specs.declared.profile.Profile.{Profile};
+ghost use Rattle.pp_model.specs.Words.{Profile};
 ghost use Rattle.pp_steps.specs.Premises.{LosesNoSample};
 ghost use Rattle.pp_steps.specs.Stay.{HasSample, SumsStayReordered};
 ghost use Rattle.pp_steps.specs.Steps.{Group, sources_of};

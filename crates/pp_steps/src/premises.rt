@@ -1,7 +1,7 @@
 //! How to know that profiles can be merged in steps.
 ghost use Rattle.pp_steps.specs.Premises.{GroupsAddUp, HasEqualMappings, HasFirstMappings, HasWeights, LosesNoMapping, LosesNoSample, MergeInAnyGroups, MergeInSteps, NamesFirst, NamesMappings};
 ghost use Rattle.pp_merge.specs.Merge.{all_mappings, merged};
-ghost use Rattle.pp_model.specs.declared.profile.Profile.{Profile};
+ghost use Rattle.pp_model.specs.Words.{Profile};
 ghost use Rattle.pp_steps.specs.Steps.{Group, all_sources, in_steps};
 ghost use Rattle.std.specs.List.{AllByRecursion, list_all};
 ghost use Rattle.std.specs.Ordering.{int_eq};

@@ -4,11 +4,7 @@ use Rattle.std.specs.Prelude.{◌≤ℤ◌}
 use Rattle.std.specs.List.{AllByRecursion}
 use Rattle.std.proofs.lemmas.Int.{ints}
 use Rattle.pp_base.proofs.Lists.{all_by}
-use Rattle.pp_model.specs.declared.profile.Profile.{Profile}
-use Rattle.pp_model.specs.declared.profile.Sample.{Sample}
-use Rattle.pp_model.specs.FirstSight.{distinct}
-use Rattle.pp_model.specs.Lookup.{text_of}
-use Rattle.pp_model.specs.Sizes.{value_in}
+use Rattle.pp_model.specs.Words.{Profile, Sample, distinct, text_of, value_in}
 use Rattle.pp_share.specs.Alike.{same_sample, first_alike}
 use Rattle.pp_share.specs.Described.{SampleText, location_found, sample_text, samples_found}
 use Rattle.pp_share.specs.Sums.{counts, keys_of, rows_of, summed, sum_of}

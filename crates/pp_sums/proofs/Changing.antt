@@ -3,13 +3,7 @@ use Rattle.std.proofs.Common.{◌≡◌, ℕ, Bool, true, false, cond, not, ℤ,
 use Rattle.std.specs.List.{cons_option, flat_map}
 use Rattle.std.specs.Option.{is_some}
 use Rattle.std.proofs.lemmas.Int.{ints}
-use Rattle.pp_model.specs.declared.config.Config.{Config}
-use Rattle.pp_model.specs.declared.presentation.Sort.{Sort}
-use Rattle.pp_model.specs.declared.frame.Frame.{Frame}
-use Rattle.pp_model.specs.declared.profile.Profile.{Profile}
-use Rattle.pp_model.specs.declared.profile.Sample.{Sample}
-use Rattle.pp_model.specs.Finders.{Finders}
-use Rattle.pp_model.specs.FrameTexts.{Written}
+use Rattle.pp_model.specs.Words.{Config, Sort, Frame, Profile, Sample, Finders, Written}
 use Rattle.pp_count.specs.Base.{selected_all}
 use Rattle.pp_count.specs.Column.{selected}
 use Rattle.pp_count.specs.Counted.{report_samples}

@@ -8,9 +8,7 @@ use Rattle.std.proofs.lemmas.List.Sorted.{All-permutation}
 use Rattle.std.proofs.lemmas.List.Elements.{All-from_recursion, recursion_from_All}
 use Rattle.std.proofs.lemmas.Option.{none-some, same_Some}
 use Rattle.pp_base.proofs.Lists.{all_by}
-use Rattle.pp_model.specs.declared.config.Config.{Config}
-use Rattle.pp_model.specs.declared.grouping.Grain.{Grain}
-use Rattle.pp_model.specs.declared.profile.Profile.{Profile}
+use Rattle.pp_model.specs.Words.{Config, Grain, Profile}
 use Rattle.pp_share.specs.Alike.{same_mapping, first_alike}
 use Rattle.pp_share.specs.Described.{MappingText, mapping_text}
 use Rattle.pp_share.proofs.MergedMapping.{IsFound, find_congr}

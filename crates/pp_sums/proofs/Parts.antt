@@ -9,13 +9,9 @@ use Rattle.std.proofs.Math.IntN.{+ℤ_idl}
 use Rattle.std.proofs.lemmas.Bool.{false≢true, or_right}
 use Rattle.std.proofs.lemmas.Cmp.{eq_by_cmp_equiv}
 use Rattle.pp_base.proofs.Booleans.{either}
-use Rattle.pp_model.specs.declared.config.Config.{Config}
-use Rattle.pp_model.specs.declared.grouping.Grain.{Grain}
+use Rattle.pp_model.specs.Words.{Config, Grain, Profile, Finders, Written}
 use Rattle.pp_model.specs.declared.grouping.Grain.TheVariants.{Functions, FileFunctions, Files, Lines, Addresses}
-use Rattle.pp_model.specs.declared.profile.Profile.{Profile}
-use Rattle.pp_model.specs.Finders.{Finders}
-use Rattle.pp_model.specs.FrameTexts.{Written}
-use Rattle.pp_grain.specs.Keys.{key_cmp, key_texts, kept_by, with_object, is_nameless}
+use Rattle.pp_grain.specs.Words.{key_cmp, key_texts, kept_by, with_object, is_nameless}
 use Rattle.pp_grain.proofs.CallerLemmas.{key_cmp_total}
 use Rattle.pp_count.specs.Sums.{Seen, renamed, sum_where, has, leads, occurs, flat, cum, all_keys}
 use Rattle.pp_count.specs.Seeing.{seen_samples, framed_samples}

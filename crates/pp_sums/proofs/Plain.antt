@@ -6,12 +6,7 @@ use Rattle.std.specs.Option.{unwrap_or}
 use Rattle.std.proofs.lemmas.List.Elements.{recursion_from_All}
 use Rattle.std.proofs.lemmas.Bool.{eqb-true}
 use Rattle.pp_base.proofs.Lists.{all_by}
-use Rattle.pp_model.specs.declared.profile.Location.{Location}
-use Rattle.pp_model.specs.declared.profile.Mapping.{Mapping}
-use Rattle.pp_model.specs.declared.profile.Profile.{Profile}
-use Rattle.pp_model.specs.declared.profile.Sample.{Sample}
-use Rattle.pp_model.specs.Lookup.{mapping_with}
-use Rattle.pp_model.specs.Rules.{NoRuleFails, IsCompact}
+use Rattle.pp_model.specs.Words.{Location, Mapping, Profile, Sample, mapping_with, NoRuleFails, IsCompact}
 use Rattle.pp_model.proofs.RuleLemmas.{passes}
 use Rattle.pp_share.specs.Described.{MappingText, mapping_text, mapping_found}
 use Rattle.pp_share.specs.Alike.{same_mapping, first_alike}

@@ -13,16 +13,9 @@ use Rattle.std.proofs.lemmas.List.Folds.{list_any-append}
 use Rattle.std.proofs.lemmas.Map.Views.{any-filter_same}
 use Rattle.pp_base.proofs.Lists.{all_by}
 use Rattle.pp_base.proofs.Orders.{both_equal}
-use Rattle.pp_model.specs.declared.config.Config.{Config}
-use Rattle.pp_model.specs.declared.frame.Frame.{Frame}
-use Rattle.pp_model.specs.declared.profile.Profile.{Profile}
-use Rattle.pp_model.specs.declared.profile.Sample.{Sample}
-use Rattle.pp_model.specs.Finders.{Finders}
-use Rattle.pp_model.specs.FrameTexts.{Written}
+use Rattle.pp_model.specs.Words.{Config, Frame, Profile, Sample, Finders, Written}
 use Rattle.pp_stack.specs.Filters.{has_no_items}
-use Rattle.pp_units.specs.Head.{facts_text}
-use Rattle.pp_units.specs.Numbers.{value_text}
-use Rattle.pp_units.specs.Shown.{Shown}
+use Rattle.pp_units.specs.Words.{facts_text, value_text, Shown}
 use Rattle.pp_tags.specs.TagFilters.{shown_labels}
 use Rattle.pp_count.specs.Column.{selected}
 use Rattle.pp_count.specs.Counts.{filtered_samples}

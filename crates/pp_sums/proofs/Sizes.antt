@@ -6,11 +6,7 @@ use Rattle.std.proofs.Math.IntN.{+ℤ_idr}
 use Rattle.std.proofs.lemmas.Int.{ints}
 use Rattle.std.proofs.lemmas.List.Sums.{sum_by-cons}
 use Rattle.pp_base.proofs.Lists.{all_by}
-use Rattle.pp_model.specs.declared.config.Config.{Config}
-use Rattle.pp_model.specs.declared.profile.Profile.{Profile}
-use Rattle.pp_model.specs.declared.profile.Sample.{Sample}
-use Rattle.pp_model.specs.Finders.{Finders}
-use Rattle.pp_model.specs.Sizes.{value_in}
+use Rattle.pp_model.specs.Words.{Config, Profile, Sample, Finders, value_in}
 use Rattle.pp_share.specs.Described.{SampleText}
 use Rattle.pp_share.specs.Written.{Contents}
 use Rattle.pp_share.proofs.NumberedLemmas.{all_both}

@@ -6,21 +6,11 @@ use Rattle.std.specs.Option.{option_map_or}
 use Rattle.std.proofs.Math.IntN.{+ℤ_idr}
 use Rattle.std.proofs.lemmas.List.Elements.{recursion_from_All}
 use Rattle.pp_base.proofs.Lists.{all_by}
-use Rattle.pp_model.specs.declared.config.Config.{Config}
-use Rattle.pp_model.specs.declared.frame.Frame.{Frame}
-use Rattle.pp_model.specs.declared.profile.Profile.{Profile}
-use Rattle.pp_model.specs.declared.profile.Sample.{Sample}
-use Rattle.pp_model.specs.Conditions.{RefersTo}
-use Rattle.pp_model.specs.Finders.{Finders}
-use Rattle.pp_model.specs.Frames.{stack_of}
-use Rattle.pp_model.specs.FrameTexts.{Written, written}
-use Rattle.pp_model.specs.Lookup.{text_at, text_of}
-use Rattle.pp_model.specs.Rules.{label_has_texts, NoRuleFails, IsCompact}
-use Rattle.pp_model.specs.Sizes.{value_in}
+use Rattle.pp_model.specs.Words.{Config, Frame, Profile, Sample, RefersTo, Finders, stack_of, Written, written, text_at, text_of, label_has_texts, NoRuleFails, IsCompact, value_in}
 use Rattle.pp_model.proofs.FirstText.{text_zero}
 use Rattle.pp_model.proofs.RuleLemmas.{passes as rule_passes}
 use Rattle.pp_stack.specs.Filters.{frames_of_sample}
-use Rattle.pp_grain.specs.Keys.{key_texts}
+use Rattle.pp_grain.specs.Words.{key_texts}
 use Rattle.pp_share.specs.Described.{SampleText, location_found, mapping_found, sample_text}
 use Rattle.pp_share.specs.Alike.{first_alike}
 use Rattle.pp_share.proofs.NumberedLemmas.{all_both}

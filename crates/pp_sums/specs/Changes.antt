@@ -1,10 +1,8 @@
 -- What the changes that a comparison shows add up to.
 use Rattle.std.specs.Prelude.{◌≡◌, ℕ, ◌+ℤ◌, Bool, not, List, ◌++◌, map, Option}
 use Rattle.std.specs.List.{flat_map}
-use Rattle.pp_model.specs.declared.config.Config.{Config}
+use Rattle.pp_model.specs.Words.{Config, Profile, Finders}
 use Rattle.pp_model.specs.declared.presentation.Sort.TheVariants.{Flat}
-use Rattle.pp_model.specs.declared.profile.Profile.{Profile}
-use Rattle.pp_model.specs.Finders.{Finders}
 use Rattle.pp_count.specs.Sums.{sum_where}
 use Rattle.pp_count.specs.Seeing.{seen_samples}
 use Rattle.pp_graph.specs.Trim.{all_report_keys}

@@ -1,10 +1,7 @@
 -- Reports of a file in which is dropped what they do not look at.
 use Rattle.std.specs.Prelude.{◌≡◌, ℕ, ◌<◌, ◌^◌, true, List, [], ◌∷◌, length, Some}
 use Rattle.std.specs.List.{AllByRecursion}
-use Rattle.pp_model.specs.declared.config.Config.{Config}
-use Rattle.pp_model.specs.declared.profile.Profile.{Profile}
-use Rattle.pp_model.specs.declared.grouping.Grouping.{Grouping}
-use Rattle.pp_model.specs.Finders.{Finders}
+use Rattle.pp_model.specs.Words.{Config, Profile, Grouping, Finders}
 use Rattle.pp_merge.specs.Merge.{merged}
 use Rattle.pp_count.specs.Column.{column_of}
 use Rattle.pp_aggregate.specs.declared.aggregating.Kept.{Kept}

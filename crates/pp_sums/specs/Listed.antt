@@ -1,10 +1,7 @@
 -- What the list report shows of a routine is the sum of what it shows of the routine's lines.
 use Rattle.std.specs.Prelude.{◌≡◌, ℕ, ◌≤ℤ◌, true, List, map, Option}
 use Rattle.std.specs.List.{filter}
-use Rattle.pp_model.specs.declared.config.Config.{Config}
-use Rattle.pp_model.specs.declared.profile.Profile.{Profile}
-use Rattle.pp_model.specs.Finders.{Finders}
-use Rattle.pp_model.specs.FrameTexts.{Written}
+use Rattle.pp_model.specs.Words.{Config, Profile, Finders, Written}
 use Rattle.pp_count.specs.Sums.{Seen, renamed}
 use Rattle.pp_count.specs.Seeing.{seen_samples}
 use Rattle.pp_count.specs.Counted.{finds_own, report_frames}

@@ -1,12 +1,8 @@
 -- When reports of two profiles have the same figures, and when they show the same rows.
 use Rattle.std.specs.Prelude.{◌≡◌, ℕ, pos, ◌≤ℤ◌, Bool, Option}
 use Rattle.std.specs.List.{AllByRecursion}
-use Rattle.pp_model.specs.declared.config.Config.{Config}
-use Rattle.pp_model.specs.declared.profile.Profile.{Profile}
-use Rattle.pp_model.specs.Finders.{Finders}
-use Rattle.pp_model.specs.FrameTexts.{Written}
-use Rattle.pp_model.specs.Sizes.{value_in}
-use Rattle.pp_grain.specs.Keys.{key_cmp}
+use Rattle.pp_model.specs.Words.{Config, Profile, Finders, Written, value_in}
+use Rattle.pp_grain.specs.Words.{key_cmp}
 use Rattle.pp_count.specs.Sums.{occurs, flat, cum}
 use Rattle.pp_count.specs.EdgeSums.{edge_occurs, edge_sum}
 use Rattle.pp_count.specs.Counts.{total_of}

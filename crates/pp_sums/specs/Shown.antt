@@ -1,14 +1,8 @@
 -- What traces and tags show adds up to the samples that the filters leave.
 use Rattle.std.specs.Prelude.{◌≡◌, ℕ, Bool, true, List, [], ◌∷◌, ◌++◌, map, Option, option_map}
 use Rattle.std.specs.List.{AllByRecursion, filter, filter_map, flat_map, list_all}
-use Rattle.pp_model.specs.declared.config.Config.{Config}
-use Rattle.pp_model.specs.declared.profile.Profile.{Profile}
-use Rattle.pp_model.specs.declared.profile.Sample.{Sample}
-use Rattle.pp_model.specs.Finders.{Finders}
-use Rattle.pp_model.specs.FrameTexts.{Written}
-use Rattle.pp_units.specs.Head.{Facts, facts_text}
-use Rattle.pp_units.specs.Numbers.{value_text}
-use Rattle.pp_units.specs.Shown.{Shown}
+use Rattle.pp_model.specs.Words.{Config, Profile, Sample, Finders, Written}
+use Rattle.pp_units.specs.Words.{Facts, facts_text, value_text, Shown}
 use Rattle.pp_tags.specs.TagFilters.{shown_labels}
 use Rattle.pp_count.specs.Sums.{Seen, sum_where}
 use Rattle.pp_count.specs.Seeing.{seen, seen_samples}

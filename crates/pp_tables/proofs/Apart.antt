@@ -4,8 +4,7 @@ use Rattle.std.specs.List.{flat_map, AllByRecursion}
 use Rattle.std.proofs.lemmas.Bool.{eqb-true}
 use Rattle.pp_wire.specs.declared.fault.WireFault.{WireFault}
 use Rattle.pp_wire.specs.Fields.{Content, Varint, Eight, Four, Bytes, Item, fields}
-use Rattle.pp_model.specs.declared.profile.Sample.{Sample}
-use Rattle.pp_model.specs.declared.profile.Profile.{Profile}
+use Rattle.pp_model.specs.Words.{Sample, Profile}
 use Rattle.pp_tables.specs.declared.skim.Skimmed.{Skimmed}
 use Rattle.pp_tables.specs.Message.{Run, Nested, fault_by, fault_of, or_else, first_item_fault, fault_in}
 use Rattle.pp_tables.specs.Select.{all, messages_in}

@@ -6,13 +6,12 @@ use Rattle.std.proofs.lemmas.List.{length-append, length-map}
 use Rattle.pp_wire.specs.declared.fault.WireFault.{WireFault}
 use Rattle.pp_wire.specs.Fields.{Content, Varint, Eight, Four, Bytes, Item, fields}
 use Rattle.pp_wire.proofs.CallerLemmas.{length-numbers, run_length, size_of, total, total-fields}
-use Rattle.pp_model.specs.declared.profile.Profile.{Profile}
+use Rattle.pp_model.specs.Words.{Profile, HasAtMost}
 use Rattle.pp_tables.specs.declared.refusal.ReadRefusal.{ReadRefusal}
 use Rattle.pp_tables.specs.Message.{fault_in}
 use Rattle.pp_tables.specs.Select.{all, listed, int_list_in, of_payload, texts_in, messages_in}
 use Rattle.pp_tables.specs.Tables.{profile_rules, value_type_after, no_value_type, sample_after, no_sample, mapping_after, no_mapping, location_after, no_location, function_after, no_function}
 use Rattle.pp_tables.specs.Read.{Answers, profile_unless, read_message, profile_of, or_one_empty}
-use Rattle.pp_model.specs.Sizes.{HasAtMost}
 
 case_few : {A : Type 0} (b : Bool) (read : Item → List A) (i : Item) (rest : List Item) (n : ℕ) → length (read i) ≤ size_of i → length (flat_map read rest) ≤ n → length (flat_map read (cond b (i ∷ rest) rest)) ≤ size_of i + n
 case_few true read i rest n one others = omega (arith, length-append (read i) (flat_map read rest))

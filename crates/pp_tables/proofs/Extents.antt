@@ -3,7 +3,7 @@ use Rattle.std.proofs.Common.{◌≡◌, ℕ, zero, suc, ◌+◌, ◌-◌, ◌*�
 use Rattle.std.specs.List.{flat_map, AllByRecursion}
 use Rattle.std.specs.Int.{w32, w64, from_le_bytes}
 use Rattle.std.proofs.lemmas.List.{drop_at, length-append, length-take, map-append, take-append-drop, take_min}
-use Rattle.pp_base.specs.Results.{◌>>=◌}
+use Rattle.pp_base.specs.Words.{◌>>=◌}
 use Rattle.pp_wire.specs.declared.fault.WireKind.{WireKind}
 use Rattle.pp_wire.specs.declared.fault.WireKind.TheVariants.{Truncated, BadKind}
 use Rattle.pp_wire.specs.declared.fault.WireFault.{WireFault}

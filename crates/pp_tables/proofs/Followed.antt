@@ -9,7 +9,7 @@ use Rattle.pp_wire.specs.Reading.{Read}
 use Rattle.pp_wire.specs.Varint.{groups, varint}
 use Rattle.pp_wire.specs.Walk.{placed}
 use Rattle.pp_wire.specs.Fields.{Content, Varint, Eight, Four, Bytes, Item, number_in, eight, four, length_delimited, number, content, field_in, field}
-use Rattle.pp_base.specs.Results.{◌>>=◌}
+use Rattle.pp_base.specs.Words.{◌>>=◌}
 
 -- a content without its place
 abbrev pub bare : Content → Content

@@ -6,13 +6,7 @@ use Rattle.std.proofs.lemmas.List.{append-nil, length-append}
 use Rattle.std.proofs.lemmas.Int.{to_z-of_z}
 use Rattle.std.proofs.lemmas.Bool.Decides.{eqb_tells}
 use Rattle.pp_wire.specs.Spelling.{packed_field}
-use Rattle.pp_model.specs.declared.profile.ValueType.{ValueType}
-use Rattle.pp_model.specs.declared.profile.Label.{Label}
-use Rattle.pp_model.specs.declared.profile.Sample.{Sample}
-use Rattle.pp_model.specs.declared.profile.Mapping.{Mapping}
-use Rattle.pp_model.specs.declared.profile.Line.{Line}
-use Rattle.pp_model.specs.declared.profile.Location.{Location}
-use Rattle.pp_model.specs.declared.profile.Function.{Function}
+use Rattle.pp_model.specs.Words.{ValueType, Label, Sample, Mapping, Line, Location, Function}
 use Rattle.pp_tables.specs.Select.{signed, flag}
 use Rattle.pp_tables.specs.Tables.{value_type_rules, no_value_type, value_type_after, label_rules, no_label, label_after, sample_rules, no_sample, sample_after, mapping_rules, no_mapping, mapping_after, line_rules, no_line, line_after, location_rules, no_location, location_after, function_rules, no_function, function_after}
 use Rattle.pp_tables.specs.Takes.{value_type_put, label_put, sample_put, mapping_put, line_put, location_put, function_put}

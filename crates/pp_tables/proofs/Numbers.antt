@@ -3,10 +3,7 @@ use Rattle.std.proofs.Common.{◌≡◌, ℕ, ◌<◌, ◌^◌, List, [], ◌∷
 use Rattle.std.specs.List.{AllByRecursion, list_all}
 use Rattle.std.proofs.lemmas.List.Elements.{All-get_or, All-from_recursion, recursion_from_All}
 use Rattle.std.proofs.lemmas.List.Sums.{AllPass-from_list_all}
-use Rattle.pp_model.specs.declared.profile.Location.{Location}
-use Rattle.pp_model.specs.declared.profile.Sample.{Sample}
-use Rattle.pp_model.specs.declared.profile.Profile.{Profile}
-use Rattle.pp_model.specs.Rules.{NoRuleFails, stands_in, location_ids}
+use Rattle.pp_model.specs.Words.{Location, Sample, Profile, NoRuleFails, stands_in, location_ids}
 use Rattle.pp_model.proofs.RuleLemmas.{passes, contains_from}
 use Rattle.pp_tables.specs.Encode.{encode}
 use Rattle.pp_tables.specs.Fits.{IsUint, LocationFits, SampleFits, RowFits, NumbersFit, ProfileFits}

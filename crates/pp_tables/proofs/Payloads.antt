@@ -9,7 +9,7 @@ use Rattle.pp_wire.specs.Walk.{Walk, more, walk_of}
 use Rattle.pp_wire.specs.Fields.{Content, Varint, Eight, Four, Bytes, Item, field, fields}
 use Rattle.pp_wire.proofs.Walks.{walk_more, walk_fails}
 use Rattle.pp_wire.proofs.Shrinking.{field_shrinks}
-use Rattle.pp_model.specs.declared.profile.Profile.{Profile}
+use Rattle.pp_model.specs.Words.{Profile}
 use Rattle.pp_tables.specs.declared.refusal.ReadRefusal.{ReadRefusal}
 use Rattle.pp_tables.specs.declared.refusal.ReadRefusal.TheVariants as refusal
 use Rattle.pp_tables.specs.Message.{Unknown, Scalar, Nested, fault_by, fault_of, or_else, first_item_fault, walk_fault, fault_in}

@@ -7,7 +7,7 @@ use mir.ValLaws.{to_z-Fits}
 use Rattle.pp_wire.specs.declared.fault.WireFault.{WireFault}
 use Rattle.pp_wire.specs.Fields.{Content, Varint, Eight, Four, Bytes, Item, fields}
 use Rattle.pp_wire.proofs.Ranges.{VarintFits, ItemFits, fields_fit, numbers_fit}
-use Rattle.pp_model.specs.declared.profile.Profile.{Profile}
+use Rattle.pp_model.specs.Words.{Profile}
 use Rattle.pp_tables.specs.declared.refusal.ReadRefusal.{ReadRefusal}
 use Rattle.pp_tables.specs.Message.{fault_in}
 use Rattle.pp_tables.specs.Select.{all, last_or, signed, scalar, uints_in, ints_in, listed, uint_list_in, int_list_in, of_payload, messages_in, fields_in}

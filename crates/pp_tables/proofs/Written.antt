@@ -7,9 +7,7 @@ use Rattle.pp_wire.specs.Walk.{walk_in}
 use Rattle.pp_wire.specs.Fields.{fields, field, field_in, number_in, content}
 use Rattle.pp_wire.specs.Varint.{groups, varint}
 use Rattle.pp_wire.specs.Spelling.{tag_bytes, varint_bytes, bytes_field, packed_field}
-use Rattle.pp_model.specs.declared.profile.ValueType.{ValueType}
-use Rattle.pp_model.specs.declared.profile.Profile.{Profile}
-use Rattle.pp_model.specs.Rules.{begins_empty, zero_unless, NoRuleFails}
+use Rattle.pp_model.specs.Words.{ValueType, Profile, begins_empty, zero_unless, NoRuleFails}
 use Rattle.pp_tables.specs.declared.refusal.ReadRefusal.TheVariants as refusal
 use Rattle.pp_tables.specs.Message.{fault_in, walk_fault}
 use Rattle.pp_tables.specs.Select.{signed}

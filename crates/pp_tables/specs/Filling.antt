@@ -5,14 +5,7 @@ use Rattle.std.proofs.lemmas.List.{append-nil}
 use Rattle.std.proofs.lemmas.Grind.{flat_map-append}
 use Rattle.std.proofs.lemmas.List.Elements.{filter-append}
 use Rattle.pp_wire.specs.Fields.{Item}
-use Rattle.pp_model.specs.declared.profile.ValueType.{ValueType}
-use Rattle.pp_model.specs.declared.profile.Label.{Label}
-use Rattle.pp_model.specs.declared.profile.Sample.{Sample}
-use Rattle.pp_model.specs.declared.profile.Mapping.{Mapping}
-use Rattle.pp_model.specs.declared.profile.Line.{Line}
-use Rattle.pp_model.specs.declared.profile.Location.{Location}
-use Rattle.pp_model.specs.declared.profile.Function.{Function}
-use Rattle.pp_model.specs.declared.profile.Profile.{Profile}
+use Rattle.pp_model.specs.Words.{ValueType, Label, Sample, Mapping, Line, Location, Function, Profile}
 use Rattle.pp_tables.specs.Select.{all, last_or, uints_in, ints_in, bools_in, uint_list_in, int_list_in, texts_in, messages_in, fields_in}
 use Rattle.pp_tables.specs.Tables.{value_type_after, no_value_type, label_after, no_label, sample_after, no_sample, mapping_after, no_mapping, line_after, no_line, location_after, no_location, function_after, no_function, profile_after}
 use Rattle.pp_tables.specs.Takes.{set_by, add_by, value_type_put, label_put, sample_put, mapping_put, line_put, location_put, function_put, profile_put}

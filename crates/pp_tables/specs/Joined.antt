@@ -2,7 +2,7 @@
 use Rattle.std.specs.Prelude.{◌≡◌, ℕ, List, [], ◌∷◌, None}
 use Rattle.std.specs.List.{flat_map}
 use Rattle.pp_wire.specs.Fields.{Item, fields}
-use Rattle.pp_model.specs.declared.profile.ValueType.{ValueType}
+use Rattle.pp_model.specs.Words.{ValueType}
 use Rattle.pp_tables.specs.Message.{fault_in}
 use Rattle.pp_tables.specs.Select.{of_payload}
 use Rattle.pp_tables.specs.Tables.{value_type_rules, no_value_type, value_type_after}

@@ -2,8 +2,7 @@
 -- clause cites them.
 use Rattle.std.specs.Prelude.{◌≡◌, ℕ, List, ◌++◌}
 use Rattle.std.specs.List.{AllByRecursion}
-use Rattle.pp_model.specs.declared.profile.Sample.{Sample}
-use Rattle.pp_model.specs.declared.profile.Profile.{Profile}
+use Rattle.pp_model.specs.Words.{Sample, Profile}
 use Rattle.pp_tables.specs.Encode.{message_fields, sample_bytes, mapping_bytes, location_bytes, function_bytes}
 use Rattle.pp_tables.specs.Fits.{RowFits, MappingFits, LocationFits, FunctionFits}
 

@@ -4,7 +4,7 @@ use Rattle.std.proofs.Common.{◌≡◌, ℕ, ◌%◌, ◌^◌, Bool, true, fals
 use Rattle.std.proofs.lemmas.Bool.{eqb-true}
 use Rattle.std.proofs.lemmas.List.{append-nil}
 use Rattle.pp_wire.specs.Fields.{Item, fields}
-use Rattle.pp_model.specs.declared.profile.Profile.{Profile}
+use Rattle.pp_model.specs.Words.{Profile}
 use Rattle.pp_tables.specs.declared.extent.Extent.{Extent}
 use Rattle.pp_tables.specs.declared.skim.Skimmed.{Skimmed}
 use Rattle.pp_tables.specs.Message.{Rule, Run, fault_in}

@@ -3,14 +3,7 @@
 -- and all that is given for each repeated field.
 use Rattle.std.specs.Prelude.{ℕ, ◌==◌, nat_lt, nat_le, ◌&&◌, ◌||◌, pos, false, List, [], ◌++◌, if◌then◌else◌}
 use Rattle.pp_wire.specs.Fields.{Item}
-use Rattle.pp_model.specs.declared.profile.ValueType.{ValueType}
-use Rattle.pp_model.specs.declared.profile.Label.{Label}
-use Rattle.pp_model.specs.declared.profile.Sample.{Sample}
-use Rattle.pp_model.specs.declared.profile.Mapping.{Mapping}
-use Rattle.pp_model.specs.declared.profile.Line.{Line}
-use Rattle.pp_model.specs.declared.profile.Location.{Location}
-use Rattle.pp_model.specs.declared.profile.Function.{Function}
-use Rattle.pp_model.specs.declared.profile.Profile.{Profile}
+use Rattle.pp_model.specs.Words.{ValueType, Label, Sample, Mapping, Line, Location, Function, Profile}
 pub use Rattle.pp_model.specs.Values.{no_sample}
 pub use Rattle.pp_model.specs.Conditions.{no_location}
 use Rattle.pp_tables.specs.Message.{Rule, Unknown, Scalar, Numbers, Run, Nested, fault_in}

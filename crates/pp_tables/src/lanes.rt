@@ -1,6 +1,6 @@
 //! The profile that a file's bytes are, of which several lanes read the samples.
 ghost use Rattle.std.specs.Prelude.{◌≡◌, ◌<◌, ◌^◌, Ok, length, IfOk, IfSome};
-ghost use Rattle.pp_model.specs.Sizes.{HasAtMost};
+ghost use Rattle.pp_model.specs.Words.{HasAtMost};
 ghost use Rattle.pp_tables.specs.Read.{Answers, read, read_message};
 ghost use Rattle.pp_tables.specs.Skim.{IsSkimmed};
 ghost use Rattle.pp_tables.specs.Apart.{AnswersIfAny};

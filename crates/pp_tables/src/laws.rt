@@ -2,8 +2,7 @@
 ghost use Rattle.std.specs.Prelude.{◌≡◌, ◌≢◌, ◌<◌, ◌^◌, ℕ, List, length, Ok, Err};
 ghost use Rattle.std.specs.List.{flat_map, AllByRecursion};
 ghost use Rattle.pp_wire.specs.Fields.{fields};
-ghost use Rattle.pp_model.specs.declared.profile.Profile.{Profile};
-ghost use Rattle.pp_model.specs.Rules.{NoRuleFails};
+ghost use Rattle.pp_model.specs.Words.{Profile, NoRuleFails};
 ghost use Rattle.pp_tables.specs.declared.refusal.ReadRefusal.TheVariants as refusals;
 ghost use Rattle.pp_tables.specs.Fits.{ProfileFits};
 ghost use Rattle.pp_tables.specs.Encode.{encode};

@@ -1,7 +1,7 @@
 //! The profile that a file's bytes are.
 ghost use Rattle.std.specs.Prelude.{◌≡◌, length, IfOk};
 ghost use Rattle.pp_tables.specs.Read.{Answers, is_gzip, read, read_message, with_a_text};
-ghost use Rattle.pp_model.specs.Sizes.{HasAtMost};
+ghost use Rattle.pp_model.specs.Words.{HasAtMost};
 
 use crate::ReadRefusal;
 use crate::message::{Message, fill};

@@ -6,12 +6,7 @@ use Rattle.std.proofs.lemmas.List.{length-map, get_or-map}
 use Rattle.std.proofs.lemmas.List.Elements.{All-contains, Contains-append_left, Contains-append_right}
 use Rattle.std.proofs.lemmas.List.Folds.{list_all-map, list_all_more, list_all_at}
 use Rattle.std.proofs.lemmas.Simd.{map-map}
-use Rattle.pp_model.specs.declared.profile.Label.{Label}
-use Rattle.pp_model.specs.declared.profile.Sample.{Sample}
-use Rattle.pp_model.specs.declared.profile.Profile.{Profile}
-use Rattle.pp_model.specs.declared.verdicts.Tag.{Tag}
-use Rattle.pp_model.specs.Conditions.{IsSampleOf}
-use Rattle.pp_model.specs.Finders.{Finder, TagFinder}
+use Rattle.pp_model.specs.Words.{Label, Sample, Profile, Tag, IsSampleOf, Finder, TagFinder}
 use Rattle.pp_tags.specs.Labels.{has_text}
 use Rattle.pp_tags.specs.TagFilters.{selects_each, on_tag, found_by, by_text, subjects}
 use Rattle.pp_tags.specs.TagPairs.{AreTagPairs, all_tags, tag_of, tags_in, tag_text}

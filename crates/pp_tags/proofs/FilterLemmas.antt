@@ -4,14 +4,8 @@ use Rattle.std.specs.Prelude.{All, Option, None}
 use Rattle.std.specs.List.{list_all}
 use Rattle.std.specs.Option.{option_map_or}
 use Rattle.std.proofs.lemmas.List.{nil_from_length}
-use Rattle.pp_units.specs.declared.range.Range.{Range}
-use Rattle.pp_model.specs.declared.profile.Label.{Label}
-use Rattle.pp_model.specs.declared.profile.Sample.{Sample}
-use Rattle.pp_model.specs.declared.profile.Profile.{Profile}
-use Rattle.pp_model.specs.declared.verdicts.Tag.{Tag}
-use Rattle.pp_model.specs.Conditions.{IsSampleOf}
-use Rattle.pp_model.specs.Finders.{TagFinders}
-use Rattle.pp_model.specs.Rules.{label_has_texts}
+use Rattle.pp_units.specs.Words.{Range}
+use Rattle.pp_model.specs.Words.{Label, Sample, Profile, Tag, IsSampleOf, TagFinders, label_has_texts}
 use Rattle.pp_tags.specs.declared.tag_filter.TagFilter.{TagFilter}
 use Rattle.pp_tags.specs.TagFilters.{ArePartVerdicts, found_by, on_tag, selects, selects_range, selects_parts}
 use Rattle.pp_tags.specs.TagPairs.{AreTagPairs, tag_pairs}

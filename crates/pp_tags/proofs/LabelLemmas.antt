@@ -6,16 +6,7 @@ use Rattle.std.specs.Option.{option_map_or}
 use Rattle.std.proofs.lemmas.Bool.{and_parts}
 use Rattle.std.proofs.lemmas.List.{get_or-map}
 use Rattle.std.proofs.lemmas.List.Sums.{AllPass-from_list_all}
-use Rattle.pp_model.specs.declared.profile.Label.{Label}
-use Rattle.pp_model.specs.declared.profile.Sample.{Sample}
-use Rattle.pp_model.specs.declared.profile.Profile.{Profile}
-use Rattle.pp_model.specs.declared.loaded.Loaded.{Loaded}
-use Rattle.pp_model.specs.declared.verdicts.Verdicts.{Verdicts}
-use Rattle.pp_model.specs.Conditions.{IsSampleOf}
-use Rattle.pp_model.specs.Finders.{Finder, Finders, HoldsFinders}
-use Rattle.pp_model.specs.Lookup.{text_of, text_number}
-use Rattle.pp_model.specs.Judged.{judged}
-use Rattle.pp_model.specs.Rules.{NoRuleFails, label_has_texts, is_text}
+use Rattle.pp_model.specs.Words.{Label, Sample, Profile, Loaded, Verdicts, IsSampleOf, Finder, Finders, HoldsFinders, text_of, text_number, judged, NoRuleFails, label_has_texts, is_text}
 use Rattle.pp_model.proofs.RuleLemmas.{passes, text_below}
 use Rattle.pp_tags.specs.Labels.{has_text, key_text, label_value_text}
 use Rattle.pp_tags.specs.TagFilters.{selects_some, is_shown, shown_labels}

@@ -15,10 +15,7 @@ use Rattle.std.proofs.lemmas.List.Elements.{All-contains_itself, All-nil, All-co
 use Rattle.std.proofs.lemmas.Map.Views.{All-insert_key}
 use Rattle.std.proofs.lemmas.Simd.{map-map}
 use Rattle.pp_base.proofs.Orders.{both_equal}
-use Rattle.pp_model.specs.declared.profile.Label.{Label}
-use Rattle.pp_model.specs.declared.profile.Sample.{Sample}
-use Rattle.pp_model.specs.declared.profile.Profile.{Profile}
-use Rattle.pp_model.specs.declared.verdicts.Tag.{Tag}
+use Rattle.pp_model.specs.Words.{Label, Sample, Profile, Tag}
 use Rattle.pp_tags.specs.Labels.{has_text}
 use Rattle.pp_tags.specs.Pairs.{Pair, pair_cmp, pair_of, pairs_in, tag_with}
 use Rattle.pp_tags.specs.TagPairs.{AreTagPairs, AreRising, all_tags, tag_pairs, tag_cmp, tags_in}

@@ -1,14 +1,9 @@
 -- The worked tag filters, over a profile with the labels thread=a, thread=b and bytes=1024 on one sample each.
 use Rattle.std.proofs.Common.{◌≡◌, ℕ, Bool, true, false, List, [], ◌∷◌, map, refl}
 use Rattle.std.specs.Prelude.{pos, codes, bytes_eq}
-use Rattle.pp_base.specs.Judges.{occurs_in}
-use Rattle.pp_units.specs.Ranges.{range_of, bound_of, in_range}
-use Rattle.pp_units.specs.Shown.{is_same_kind}
-use Rattle.pp_units.specs.Scales.{scale_of, is_named}
-use Rattle.pp_model.specs.declared.profile.Label.{Label}
-use Rattle.pp_model.specs.declared.profile.Sample.{Sample}
-use Rattle.pp_model.specs.declared.profile.Profile.{Profile}
-use Rattle.pp_model.specs.Finders.{TagFinders}
+use Rattle.pp_base.specs.Words.{occurs_in}
+use Rattle.pp_units.specs.Words.{range_of, bound_of, in_range, is_same_kind, scale_of, is_named}
+use Rattle.pp_model.specs.Words.{Label, Sample, Profile, TagFinders}
 use Rattle.pp_tags.specs.Labels.{number_unit}
 use Rattle.pp_tags.specs.TagFilters.{filter_of, selects, by_text, found_by}
 use Rattle.pp_tags.specs.TagPairs.{tag_pairs, tag_text}

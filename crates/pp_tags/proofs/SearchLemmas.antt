@@ -11,7 +11,7 @@ use Rattle.std.proofs.lemmas.Bool.{cases_lt}
 use Rattle.std.proofs.lemmas.Cmp.{tied_itself}
 use Rattle.std.proofs.lemmas.List.{get_or-map}
 use Rattle.std.proofs.lemmas.List.Sorted.{searchable_from_sorted}
-use Rattle.pp_model.specs.declared.verdicts.Tag.{Tag}
+use Rattle.pp_model.specs.Words.{Tag}
 use Rattle.pp_tags.specs.TagPairs.{AreRising, tag_cmp}
 use Rattle.pp_tags.proofs.PairLemmas.{tag_ties, tag_total}
 

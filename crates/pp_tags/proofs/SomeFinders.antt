@@ -11,17 +11,7 @@ use Rattle.std.proofs.lemmas.List.{length-map, get_or-map, same_lists, get_or_de
 use Rattle.std.proofs.lemmas.List.Elements.{All-nil, All-head, All-tail, All-map, All-filter, All-append, All-contains}
 use Rattle.std.proofs.lemmas.List.Sums.{position_or_len_is, AllPass-from_list_all}
 use Rattle.std.proofs.lemmas.Slice.Eq.{bytes_eq-Decides}
-use Rattle.pp_model.specs.declared.loaded.Loaded.{Loaded}
-use Rattle.pp_model.specs.declared.profile.Label.{Label}
-use Rattle.pp_model.specs.declared.profile.Profile.{Profile}
-use Rattle.pp_model.specs.declared.profile.Sample.{Sample}
-use Rattle.pp_model.specs.declared.verdicts.Tag.{Tag}
-use Rattle.pp_model.specs.declared.verdicts.Verdicts.{Verdicts}
-use Rattle.pp_model.specs.Conditions.{HasVerdicts, HasOnePerText}
-use Rattle.pp_model.specs.Finders.{Finder, Finders, TagFinder, TagFinders, HoldsFinders}
-use Rattle.pp_model.specs.Judged.{judged}
-use Rattle.pp_model.specs.Lookup.{text_at, text_number, text_of}
-use Rattle.pp_model.specs.Rules.{NoRuleFails, is_text, label_has_texts}
+use Rattle.pp_model.specs.Words.{Loaded, Label, Profile, Sample, Tag, Verdicts, HasVerdicts, HasOnePerText, Finder, Finders, TagFinder, TagFinders, HoldsFinders, judged, text_at, text_number, text_of, NoRuleFails, is_text, label_has_texts}
 use Rattle.pp_model.proofs.RuleLemmas.{passes, text_below, text_is}
 use Rattle.pp_tags.specs.declared.tag_filter.TagFilter.{TagFilter}
 use Rattle.pp_tags.specs.Labels.{has_text}

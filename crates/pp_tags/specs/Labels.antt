@@ -2,9 +2,7 @@
 use Rattle.std.specs.Prelude.{ℕ, pos, Bool, not, ◌||◌, List, [], ◌∷◌, ◌++◌, codes, if◌then◌else◌}
 use Rattle.std.specs.Ordering.{int_eq}
 use Rattle.std.specs.Prelude.{bytes_eq}
-use Rattle.pp_model.specs.declared.profile.Label.{Label}
-use Rattle.pp_model.specs.declared.profile.Profile.{Profile}
-use Rattle.pp_model.specs.Lookup.{text_of}
+use Rattle.pp_model.specs.Words.{Label, Profile, text_of}
 
 -- the label has a text, and else a number
 abbrev pub has_text : Label → Bool

@@ -2,8 +2,7 @@
 use Rattle.std.specs.Prelude.{ℤ, List, map, filter}
 use Rattle.std.specs.declared.cmp.Ordering.{Ordering}
 use Rattle.std.specs.Ordering.{int_cmp, ordering_then}
-use Rattle.pp_model.specs.declared.profile.Label.{Label}
-use Rattle.pp_model.specs.declared.verdicts.Tag.{Tag}
+use Rattle.pp_model.specs.Words.{Label, Tag}
 use Rattle.pp_tags.specs.Labels.{has_text}
 
 -- a key index and a text index

@@ -2,18 +2,12 @@
 use Rattle.std.specs.Prelude.{◌≡◌, ℕ, ◌==◌, Bool, true, false, not, ◌&&◌, List, [], ◌∷◌, length, map, filter, All, Option, Some, None, is_some, bytes_eq, if◌then◌else◌}
 use Rattle.std.specs.List.{list_any, list_all, before_first, after_first, slice_split}
 use Rattle.std.specs.Option.{option_map_or, ForSome}
-use Rattle.pp_model.specs.declared.profile.Label.{Label}
-use Rattle.pp_model.specs.declared.profile.Sample.{Sample}
-use Rattle.pp_model.specs.declared.profile.Profile.{Profile}
-use Rattle.pp_model.specs.declared.verdicts.Tag.{Tag}
-use Rattle.pp_model.specs.Finders.{Finder, Finders, TagFinder, TagFinders}
-use Rattle.pp_model.specs.Lookup.{text_of}
-use Rattle.pp_units.specs.declared.range.Range.{Range}
-use Rattle.pp_units.specs.Ranges.{range_of, in_range}
+use Rattle.pp_model.specs.Words.{Label, Sample, Profile, Tag, Finder, Finders, TagFinder, TagFinders, text_of}
+use Rattle.pp_units.specs.Words.{Range, range_of, in_range}
 use Rattle.pp_tags.specs.declared.tag_filter.TagFilter.{TagFilter}
 use Rattle.pp_tags.specs.Labels.{has_text, key_text, label_value_text, key_value, number_unit}
 use Rattle.pp_tags.specs.TagPairs.{tag_pairs, tag_text}
-use Rattle.pp_base.specs.Marks.{is_equals}
+use Rattle.pp_base.specs.Words.{is_equals}
 
 -- a comma parts the parts
 abbrev pub is_comma : ℕ → Bool

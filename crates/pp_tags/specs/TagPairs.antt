@@ -5,10 +5,7 @@ use Rattle.std.specs.declared.cmp.Ordering.TheVariants.{Less}
 use Rattle.std.specs.BTreeSet.{insert_key}
 use Rattle.std.specs.List.{flat_map, fold, AllPairs}
 use Rattle.std.specs.Ordering.{int_cmp, ordering_then}
-use Rattle.pp_model.specs.declared.profile.Label.{Label}
-use Rattle.pp_model.specs.declared.profile.Profile.{Profile}
-use Rattle.pp_model.specs.declared.verdicts.Tag.{Tag}
-use Rattle.pp_model.specs.Lookup.{text_of}
+use Rattle.pp_model.specs.Words.{Label, Profile, Tag, text_of}
 use Rattle.pp_tags.specs.Labels.{has_text, key_value}
 
 -- the tag of a text label

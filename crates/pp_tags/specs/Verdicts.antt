@@ -2,11 +2,7 @@
 use Rattle.std.specs.Prelude.{◌≡◌, ℕ, ℤ, All, Contains, Bool, true, false, not, ◌&&◌, List, filter, slice_index_or, Option, bytes_eq}
 use Rattle.std.specs.List.{list_any}
 use Rattle.std.specs.Option.{option_map_or}
-use Rattle.pp_model.specs.declared.profile.Label.{Label}
-use Rattle.pp_model.specs.declared.profile.Profile.{Profile}
-use Rattle.pp_model.specs.declared.verdicts.Verdicts.{Verdicts}
-use Rattle.pp_model.specs.Lookup.{text_number}
-use Rattle.pp_model.specs.declared.verdicts.Tag.{Tag}
+use Rattle.pp_model.specs.Words.{Label, Profile, Verdicts, text_number, Tag}
 use Rattle.pp_tags.specs.Labels.{has_text, key_text}
 use Rattle.pp_tags.specs.TagPairs.{AreRising, tag_of}
 

@@ -2,10 +2,8 @@
 
 ghost use Rattle.std.specs.Prelude.{◌≡◌, Bool, List as Seq, [], ◌&&◌, not, map, Contains};
 ghost use Rattle.std.specs.List.{list_any, list_all};
-ghost use Rattle.pp_units.specs.Ranges.{in_range};
-ghost use Rattle.pp_model.specs.Conditions.{IsSampleOf};
-ghost use Rattle.pp_model.specs.Finders.{Finders, TagFinders};
-ghost use Rattle.pp_model.specs.declared.verdicts.Tag.{Tag as TagValue};
+ghost use Rattle.pp_units.specs.Words.{in_range};
+ghost use Rattle.pp_model.specs.Words.{IsSampleOf, Finders, TagFinders, Tag as TagValue};
 ghost use Rattle.pp_tags.specs.Labels.{has_text, number_unit};
 ghost use Rattle.pp_tags.specs.TagPairs.{tag_pairs, AreRising, tag_of, tag_cmp};
 ghost use Rattle.pp_tags.specs.TagFilters.{ArePartVerdicts, AreTagVerdicts, HasItsTags, selects, selects_or, has_name, is_tag_kept};

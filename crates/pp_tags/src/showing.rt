@@ -1,8 +1,7 @@
 //! The labels that are shown.
 
 ghost use Rattle.std.specs.Prelude.{◌≡◌, false, slice_index_or, IfOk};
-ghost use Rattle.pp_model.specs.Conditions.{IsSampleOf};
-ghost use Rattle.pp_model.specs.Finders.{Finders, HoldsFinders};
+ghost use Rattle.pp_model.specs.Words.{IsSampleOf, Finders, HoldsFinders};
 ghost use Rattle.pp_tags.specs.TagFilters.{shown_labels};
 ghost use Rattle.pp_tags.specs.Verdicts.{verdict_on, verdict_or, is_shown_by, shown_by};
 

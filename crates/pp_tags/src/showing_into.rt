@@ -1,8 +1,7 @@
 //! The labels that are shown, in room that is used again.
 
 ghost use Rattle.std.specs.Prelude.{◌≡◌, ◌++◌, IfOk};
-ghost use Rattle.pp_model.specs.Conditions.{IsSampleOf};
-ghost use Rattle.pp_model.specs.Finders.{Finders, HoldsFinders};
+ghost use Rattle.pp_model.specs.Words.{IsSampleOf, Finders, HoldsFinders};
 ghost use Rattle.pp_tags.specs.TagFilters.{shown_labels};
 ghost use Rattle.pp_tags.specs.Verdicts.{shown_by};
 

@@ -2,7 +2,7 @@
 use Rattle.std.proofs.Common.{◌≡◌, pos, [], ◌∷◌, None, refl}
 use Rattle.std.specs.Prelude.{codes}
 use Rattle.std.specs.Fmt.{digits}
-use Rattle.pp_units.specs.Numbers.{number_text, value_text, percent_text}
+use Rattle.pp_units.specs.Words.{number_text, value_text, percent_text}
 use Rattle.pp_top.specs.Top.{top_rows}
 
 -- The flats of both rows are all of the total, the cum of the second is the greater one.

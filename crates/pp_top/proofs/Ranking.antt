@@ -1,13 +1,8 @@
 -- What is written of a ranking is the top report.
 use Rattle.std.proofs.Common.{◌≡◌, ℕ, pos, List, ◌++◌, length, map, Option, sym, ap, ◌∙◌}
 use Rattle.std.proofs.lemmas.List.{length-map}
-use Rattle.pp_model.specs.declared.config.Config.{Config}
-use Rattle.pp_model.specs.declared.loaded.Loaded.{Loaded}
-use Rattle.pp_model.specs.declared.verdicts.Verdicts.{Verdicts}
-use Rattle.pp_model.specs.Finders.{Finders}
-use Rattle.pp_model.specs.FrameTexts.{Written}
-use Rattle.pp_units.specs.Head.{Facts, facts_text}
-use Rattle.pp_units.specs.Rows.{heading}
+use Rattle.pp_model.specs.Words.{Config, Loaded, Verdicts, Finders, Written}
+use Rattle.pp_units.specs.Words.{Facts, facts_text, heading}
 use Rattle.pp_count.specs.declared.counted.Counted.{Counted}
 use Rattle.pp_count.specs.Counted.{IsCountedOf, report_samples}
 use Rattle.pp_count.specs.Seeing.{HoldsFilters}

@@ -1,13 +1,8 @@
 -- The text of the top report: the lines of its head, and a row for each key that it shows.
 use Rattle.std.specs.Prelude.{ℕ, ℤ, pos, List, ◌++◌, length, map, Option}
-use Rattle.pp_model.specs.declared.config.Config.{Config}
-use Rattle.pp_model.specs.declared.profile.Profile.{Profile}
-use Rattle.pp_model.specs.Finders.{Finders}
-use Rattle.pp_model.specs.FrameTexts.{Written}
-use Rattle.pp_units.specs.Head.{Facts, facts_text}
-use Rattle.pp_units.specs.Rows.{columns_text, name_end, showing_line, dropped_line, limited_line, heading}
+use Rattle.pp_model.specs.Words.{Config, Profile, Finders, Written}
+use Rattle.pp_units.specs.Words.{Facts, facts_text, columns_text, name_end, showing_line, dropped_line, limited_line, heading, Shown}
 use Rattle.pp_units.specs.Rows as lines
-use Rattle.pp_units.specs.Shown.{Shown}
 use Rattle.pp_count.specs.declared.sums.Sums.{Sums}
 use Rattle.pp_count.specs.Counted.{report_samples}
 use Rattle.pp_graph.specs.declared.ranking.Ranked.{Ranked}

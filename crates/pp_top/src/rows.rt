@@ -1,9 +1,7 @@
 //! The rows of the table.
 ghost use Rattle.std.specs.Prelude.{◌≡◌, ◌++◌, ◌<◌, pos, length, map, All, IfOk};
-ghost use Rattle.pp_units.specs.Rows.{name_end};
-ghost use Rattle.pp_units.specs.Shown.{shown};
-ghost use Rattle.pp_grain.specs.Keys.{IsKeyOf, key_written};
-ghost use Rattle.pp_grain.specs.Naming.{name_text};
+ghost use Rattle.pp_units.specs.Words.{name_end, shown};
+ghost use Rattle.pp_grain.specs.Words.{IsKeyOf, key_written, name_text};
 ghost use Rattle.pp_count.specs.Counted.{FitSums};
 ghost use Rattle.pp_graph.specs.KeyRows.{row_at, CanShow};
 ghost use Rattle.pp_top.specs.Top.{top_row, top_rows};

@@ -1,5 +1,5 @@
 //! A profile without its addresses, and the table rules.
-ghost use Rattle.pp_model.specs.Sizes.{HasAtMost, IsCountable};
+ghost use Rattle.pp_model.specs.Words.{HasAtMost, IsCountable};
 ghost use Rattle.std.specs.Prelude.{IfOk};
 
 use anyhow::{Result, ensure};

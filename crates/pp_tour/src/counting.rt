@@ -1,8 +1,6 @@
 //! The samples counted, and what is read of the counts.
 ghost use Rattle.std.specs.Prelude.{◌≡◌};
-ghost use Rattle.pp_model.specs.Conditions.{HasVerdicts};
-ghost use Rattle.pp_model.specs.Defaults.{defaults};
-ghost use Rattle.pp_model.specs.Sizes.{IsCountable};
+ghost use Rattle.pp_model.specs.Words.{HasVerdicts, defaults, IsCountable};
 
 use crate::edges::put_edges;
 use crate::listing::put_samples;

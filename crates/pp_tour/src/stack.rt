@@ -1,6 +1,6 @@
 //! What the filters leave of one sample: its frames and its labels.
 ghost use Rattle.std.specs.Prelude.{◌≡◌, length, IfOk};
-ghost use Rattle.pp_model.specs.Conditions.{IsSampleOf, IsStackOf, HasVerdicts};
+ghost use Rattle.pp_model.specs.Words.{IsSampleOf, IsStackOf, HasVerdicts};
 
 use anyhow::Result;
 use pp_base::{List, Memory, Text};

@@ -1,6 +1,6 @@
 //! The call tree, walked by its links.
 ghost use Rattle.std.specs.Prelude.{◌<◌, length, All};
-ghost use Rattle.pp_grain.specs.Keys.{IsKeyOf};
+ghost use Rattle.pp_grain.specs.Words.{IsKeyOf};
 
 use anyhow::{Result, ensure};
 use pp_base::Text;

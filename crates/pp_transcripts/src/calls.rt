@@ -1,6 +1,6 @@
 //! Which calls of an object of the outside fail, and how.
 ghost use Rattle.std.specs.Prelude.{◌≤◌, IfSome};
-ghost use Rattle.pp_base.specs.Fault.{Rose};
+ghost use Rattle.pp_base.specs.Words.{Rose};
 
 /// How a call fails.
 #[derive(Clone, Copy, PartialEq, Eq)]

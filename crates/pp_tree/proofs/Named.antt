@@ -6,14 +6,9 @@ use Rattle.std.specs.Ordering.{eq_by_cmp}
 use Rattle.std.proofs.lemmas.Bool.{false≢true}
 use Rattle.std.proofs.lemmas.List.{get_or-map}
 use Rattle.std.proofs.lemmas.List.Elements.{All-head, All-tail}
-use Rattle.pp_model.specs.declared.config.Config.{Config}
-use Rattle.pp_model.specs.declared.grouping.Grain.{Grain}
+use Rattle.pp_model.specs.Words.{Config, Grain, Profile, Finder, Finders, Written}
 use Rattle.pp_model.specs.declared.grouping.Grain.TheVariants.{Functions, FileFunctions, Files, Lines, Addresses}
-use Rattle.pp_model.specs.declared.profile.Profile.{Profile}
-use Rattle.pp_model.specs.Finders.{Finder, Finders}
-use Rattle.pp_model.specs.FrameTexts.{Written}
-use Rattle.pp_grain.specs.declared.key.Key.{Key}
-use Rattle.pp_grain.specs.Keys.{key_cmp, key_written, key_texts, IsKeyOf}
+use Rattle.pp_grain.specs.Words.{Key, key_cmp, key_written, key_texts, IsKeyOf}
 use Rattle.pp_stack.proofs.ToldLemmas.{list_any-map}
 use Rattle.pp_count.specs.Counted.{report_frames, report_samples, finds_own, has_own_match}
 use Rattle.pp_count.specs.Counts.{AreSumsOf}

@@ -7,17 +7,8 @@ use Rattle.std.proofs.lemmas.Bool.{false≢true}
 use Rattle.std.proofs.lemmas.Option.{none-some, same_Some}
 use Rattle.std.proofs.lemmas.List.Elements.{All-head, All-tail}
 use Rattle.pp_base.proofs.Booleans.{same_bool}
-use Rattle.pp_model.specs.declared.config.Config.{Config}
-use Rattle.pp_model.specs.declared.frame.Frame.{Frame}
-use Rattle.pp_model.specs.declared.profile.Profile.{Profile}
-use Rattle.pp_model.specs.declared.profile.Sample.{Sample}
-use Rattle.pp_model.specs.Finders.{Finder, Finders}
-use Rattle.pp_model.specs.FrameTexts.{Written, written}
-use Rattle.pp_model.specs.Judged.{judged}
-use Rattle.pp_model.specs.Rules.{IsCompact}
-use Rattle.pp_grain.specs.declared.key.Key.{Key}
-use Rattle.pp_grain.specs.Keys.{key_cmp, key_written, key_texts, IsKeyOf}
-use Rattle.pp_grain.specs.Sight.{same_key}
+use Rattle.pp_model.specs.Words.{Config, Frame, Profile, Sample, Finder, Finders, Written, written, judged, IsCompact}
+use Rattle.pp_grain.specs.Words.{Key, key_cmp, key_written, key_texts, IsKeyOf, same_key}
 use Rattle.pp_grain.proofs.CallerLemmas.{same_keys}
 use Rattle.pp_grain.proofs.SightLemmas.{key_decides}
 use Rattle.pp_stack.specs.Filters.{frames_of_sample}

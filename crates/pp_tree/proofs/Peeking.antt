@@ -6,16 +6,9 @@ use Rattle.std.specs.Ordering.{eq_by_cmp}
 use Rattle.std.proofs.lemmas.List.{drop_more, drop_all, append-nil}
 use Rattle.std.proofs.lemmas.List.Elements.{All-head, All-tail, All-filter}
 use Rattle.std.proofs.lemmas.List.Sums.{sum_by-cons}
-use Rattle.pp_model.specs.declared.config.Config.{Config}
-use Rattle.pp_model.specs.declared.loaded.Loaded.{Loaded}
-use Rattle.pp_model.specs.declared.profile.Profile.{Profile}
-use Rattle.pp_model.specs.declared.verdicts.Verdicts.{Verdicts}
-use Rattle.pp_model.specs.Finders.{Finders}
-use Rattle.pp_model.specs.FrameTexts.{Written}
-use Rattle.pp_units.specs.Head.{Facts, facts_text}
-use Rattle.pp_units.specs.Rows.{showing_line}
-use Rattle.pp_grain.specs.declared.key.Key.{Key}
-use Rattle.pp_grain.specs.Keys.{key_cmp, key_written}
+use Rattle.pp_model.specs.Words.{Config, Loaded, Profile, Verdicts, Finders, Written}
+use Rattle.pp_units.specs.Words.{Facts, facts_text, showing_line}
+use Rattle.pp_grain.specs.Words.{Key, key_cmp, key_written}
 use Rattle.pp_count.specs.declared.counted.Counted.{Counted}
 use Rattle.pp_count.specs.declared.edge.Edge.{Edge}
 use Rattle.pp_count.specs.Counted.{IsCountedOf, report_samples}

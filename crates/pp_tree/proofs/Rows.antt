@@ -2,7 +2,7 @@
 use Rattle.std.proofs.Common.{◌≡◌, pos, [], ◌∷◌, None, refl}
 use Rattle.std.specs.Prelude.{codes}
 use Rattle.std.specs.Fmt.{digits}
-use Rattle.pp_units.specs.Numbers.{number_text, value_text, percent_text}
+use Rattle.pp_units.specs.Words.{number_text, value_text, percent_text}
 use Rattle.pp_tree.specs.Nodes.{node_separator, edge_indent, node_gap, node_text}
 
 -- A node of cum 5 of which two callees have 3 and 2.

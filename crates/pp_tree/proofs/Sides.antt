@@ -7,10 +7,8 @@ use Rattle.std.proofs.lemmas.Bool.{eq-eqb, eqb-true, false≢true, cases_order}
 use Rattle.std.proofs.lemmas.List.Elements.{All-nil, All-cons, All-head, All-tail}
 use Rattle.std.proofs.lemmas.Map.Views.{any-filter_same}
 use Rattle.pp_base.proofs.Booleans.{same_bool}
-use Rattle.pp_model.specs.declared.profile.Profile.{Profile}
-use Rattle.pp_model.specs.FrameTexts.{Written}
-use Rattle.pp_grain.specs.declared.key.Key.{Key}
-use Rattle.pp_grain.specs.Keys.{key_cmp, key_written}
+use Rattle.pp_model.specs.Words.{Profile, Written}
+use Rattle.pp_grain.specs.Words.{Key, key_cmp, key_written}
 use Rattle.pp_count.specs.declared.edge.Edge.{Edge}
 use Rattle.pp_count.specs.Table.{no_key, written_key}
 use Rattle.pp_count.proofs.Ties.{tied}

@@ -12,7 +12,7 @@ use Rattle.pp_count.specs.declared.edge.Edge.{Edge}
 use Rattle.pp_graph.specs.Links.{EdgeLinks, AreEdgesLinked, numbered_edge}
 use Rattle.pp_graph.specs.Lists.{occurrences, once_if}
 use Rattle.pp_graph.specs.Neighbours.{Neighbour}
-use Rattle.pp_model.specs.FrameTexts.{Written}
+use Rattle.pp_model.specs.Words.{Written}
 use Rattle.pp_tree.specs.declared.near.Near.{Near as CodeNear}
 use Rattle.pp_tree.specs.Ends.{edges_at, neighbour_of}
 

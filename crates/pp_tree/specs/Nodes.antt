@@ -1,8 +1,7 @@
 -- The table of a tree or peek report: each node between its callers and its callees.
 use Rattle.std.specs.Prelude.{ℕ, ℤ, nat_abs, List, ◌++◌, codes}
 use Rattle.std.specs.List.{flat_map}
-use Rattle.pp_units.specs.Rows.{pair_text, columns_text}
-use Rattle.pp_units.specs.Shown.{Shown}
+use Rattle.pp_units.specs.Words.{pair_text, columns_text, Shown}
 use Rattle.pp_graph.specs.KeyRows.{KeyRow, running_text}
 
 -- The other end of an edge of a node: what the edge comes to, and the name there.

@@ -2,14 +2,9 @@
 use Rattle.std.specs.Prelude.{ℕ, pos, Bool, ◌&&◌, List, ◌++◌, map, Option}
 use Rattle.std.specs.List.{filter, list_any}
 use Rattle.std.specs.Ordering.{eq_by_cmp}
-use Rattle.pp_model.specs.declared.config.Config.{Config}
-use Rattle.pp_model.specs.declared.profile.Profile.{Profile}
-use Rattle.pp_model.specs.declared.grouping.Grouping.{Grouping}
-use Rattle.pp_model.specs.Finders.{Finders}
-use Rattle.pp_model.specs.FrameTexts.{Written}
-use Rattle.pp_units.specs.Head.{Facts, facts_text}
-use Rattle.pp_units.specs.Rows.{showing_line}
-use Rattle.pp_grain.specs.Keys.{key_cmp, key_texts}
+use Rattle.pp_model.specs.Words.{Config, Profile, Grouping, Finders, Written}
+use Rattle.pp_units.specs.Words.{Facts, facts_text, showing_line}
+use Rattle.pp_grain.specs.Words.{key_cmp, key_texts}
 use Rattle.pp_count.specs.Counted.{report_samples, report_frames, finds_own}
 use Rattle.pp_graph.specs.Neighbours.{all_callers_of, all_callees_of}
 use Rattle.pp_graph.specs.Trim.{all_report_keys}

@@ -1,13 +1,9 @@
 -- The text of the tree report: the lines of its head, and the nodes that it shows between their callers and callees.
 use Rattle.std.specs.Prelude.{ℕ, ℤ, pos, List, ◌++◌, length, map, Option}
-use Rattle.pp_model.specs.declared.config.Config.{Config}
-use Rattle.pp_model.specs.declared.profile.Profile.{Profile}
-use Rattle.pp_model.specs.Finders.{Finders}
-use Rattle.pp_model.specs.FrameTexts.{Written}
-use Rattle.pp_units.specs.Head.{Facts, facts_text}
-use Rattle.pp_units.specs.Rows.{showing_line, dropped_line, limited_line}
+use Rattle.pp_model.specs.Words.{Config, Profile, Finders, Written}
+use Rattle.pp_units.specs.Words.{Facts, facts_text, showing_line, dropped_line, limited_line}
 use Rattle.pp_units.specs.Rows as lines
-use Rattle.pp_grain.specs.Naming.{name_text}
+use Rattle.pp_grain.specs.Words.{name_text}
 use Rattle.pp_count.specs.Counted.{report_samples}
 use Rattle.pp_graph.specs.Neighbours.{Neighbour, callers_of, callees_of}
 use Rattle.pp_graph.specs.Trim.{candidate_keys, report_keys, light_nodes, light_edges}

@@ -1,10 +1,7 @@
 -- A graph in which nothing is trimmed. No public clause cites this file.
 use Rattle.std.specs.Prelude.{ℕ, Bool, true, ◌&&◌, ◌||◌, Option}
-use Rattle.pp_model.specs.declared.config.Config.{Config}
-use Rattle.pp_model.specs.declared.profile.Profile.{Profile}
-use Rattle.pp_model.specs.Finders.{Finders}
-use Rattle.pp_model.specs.FrameTexts.{Written}
-use Rattle.pp_grain.specs.Keys.{key_cmp}
+use Rattle.pp_model.specs.Words.{Config, Profile, Finders, Written}
+use Rattle.pp_grain.specs.Words.{key_cmp}
 use Rattle.pp_count.specs.Counted.{report_samples}
 use Rattle.pp_count.specs.Counts.{total_of}
 use Rattle.pp_count.specs.EdgeSums.{edge_sum}

@@ -1,8 +1,8 @@
 //! Which names the own pattern of a report finds.
 ghost use Rattle.std.specs.Prelude.{◌≡◌, map, slice_index_or, Some, IfOk, IfErr, true, false};
 ghost use Rattle.std.specs.List.{list_any};
-ghost use Rattle.pp_model.specs.Finders.{Finders};
-ghost use Rattle.pp_grain.specs.Keys.{key_written};
+ghost use Rattle.pp_model.specs.Words.{Finders};
+ghost use Rattle.pp_grain.specs.Words.{key_written};
 ghost use Rattle.pp_count.specs.Counted.{has_own_match};
 ghost use Rattle.pp_count.specs.Seeing.{HoldsFilters};
 ghost use Rattle.pp_tree.specs.Found.{keeps_function};

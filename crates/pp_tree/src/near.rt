@@ -1,11 +1,8 @@
 //! The ends of a node's edges, and their lines.
 ghost use Rattle.std.specs.Prelude.{◌≡◌, ◌++◌, ◌<◌, length, map, All, IfOk};
 ghost use Rattle.std.specs.List.{flat_map};
-ghost use Rattle.pp_units.specs.Rows.{pair_text};
-ghost use Rattle.pp_units.specs.Shown.{shown};
-ghost use Rattle.pp_grain.specs.Keys.{IsKeyOf};
-ghost use Rattle.pp_grain.specs.Naming.{name_text};
-ghost use Rattle.pp_grain.specs.Told.{written_texts};
+ghost use Rattle.pp_units.specs.Words.{pair_text, shown};
+ghost use Rattle.pp_grain.specs.Words.{IsKeyOf, name_text, written_texts};
 ghost use Rattle.pp_count.specs.Table.{written_key};
 ghost use Rattle.pp_tree.specs.Nodes.{near_text, near_end, edge_indent};
 ghost use Rattle.pp_tree.specs.Tree.{near_of};

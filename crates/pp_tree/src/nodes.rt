@@ -1,9 +1,8 @@
 //! The table of nodes, each between its callers and its callees.
 ghost use Rattle.std.specs.Prelude.{◌≡◌, ◌++◌, ◌<◌, pos, length, map, IfOk};
 ghost use Rattle.std.specs.List.{flat_map};
-ghost use Rattle.pp_units.specs.Shown.{shown};
-ghost use Rattle.pp_grain.specs.Keys.{IsKeyOf, key_written};
-ghost use Rattle.pp_grain.specs.Naming.{name_text};
+ghost use Rattle.pp_units.specs.Words.{shown};
+ghost use Rattle.pp_grain.specs.Words.{IsKeyOf, key_written, name_text};
 ghost use Rattle.pp_count.specs.Counted.{FitSums};
 ghost use Rattle.pp_count.specs.Table.{written_key};
 ghost use Rattle.pp_graph.specs.KeyRows.{CanShow, row_at};

@@ -2,11 +2,8 @@
 ghost use Rattle.std.specs.Prelude.{◌≡◌, ◌||◌, ◌<◌, length, map, slice_index_or, slice_get, All, Some, IfOk, true, false};
 ghost use Rattle.std.specs.List.{list_any};
 ghost use Rattle.std.specs.Option.{option_map_or};
-ghost use Rattle.pp_model.specs.Conditions.{IsFrameOf, IsStackOf};
-ghost use Rattle.pp_model.specs.Finders.{Finder, Finders, HoldsFinders};
-ghost use Rattle.pp_model.specs.FrameTexts.{Written, written};
-ghost use Rattle.pp_grain.specs.Keys.{key_written, IsKeyOf};
-ghost use Rattle.pp_grain.specs.Sight.{same_key};
+ghost use Rattle.pp_model.specs.Words.{IsFrameOf, IsStackOf, Finder, Finders, HoldsFinders, Written, written};
+ghost use Rattle.pp_grain.specs.Words.{key_written, IsKeyOf, same_key};
 ghost use Rattle.pp_stack.specs.Filters.{AreVerdicts};
 ghost use Rattle.pp_stack.specs.Tables.{AreTables};
 ghost use Rattle.pp_count.specs.Seeing.{HoldsFilters};

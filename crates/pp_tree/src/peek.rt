@@ -1,9 +1,8 @@
 //! The whole peek report.
 ghost use Rattle.std.specs.Prelude.{◌≡◌, ◌++◌, Bool, filter, map, replicate, slice_index_or, IfOk, IfErr, OnOk, OnErr, true, false};
-ghost use Rattle.pp_model.specs.Finders.{Finders};
-ghost use Rattle.pp_model.specs.FrameTexts.{Written};
-ghost use Rattle.pp_units.specs.Head.{facts};
-ghost use Rattle.pp_grain.specs.Keys.{key_written};
+ghost use Rattle.pp_model.specs.Words.{Finders, Written};
+ghost use Rattle.pp_units.specs.Words.{facts};
+ghost use Rattle.pp_grain.specs.Words.{key_written};
 ghost use Rattle.pp_count.specs.Counted.{has_own_match};
 ghost use Rattle.pp_count.specs.Seeing.{HoldsFilters};
 ghost use Rattle.pp_graph.specs.KeyRows.{CanShow};

@@ -1,9 +1,7 @@
 //! The whole tree report.
 ghost use Rattle.std.specs.Prelude.{◌≡◌, ◌++◌, ℕ, Option, length, IfOk, OnOk, OnErr};
-ghost use Rattle.pp_model.specs.declared.config.Config.{Config};
-ghost use Rattle.pp_model.specs.declared.verdicts.Verdicts.{Verdicts};
-ghost use Rattle.pp_model.specs.Finders.{Finders};
-ghost use Rattle.pp_units.specs.Head.{facts};
+ghost use Rattle.pp_model.specs.Words.{Config, Verdicts, Finders};
+ghost use Rattle.pp_units.specs.Words.{facts};
 ghost use Rattle.pp_count.specs.Counted.{IsCountedOf};
 ghost use Rattle.pp_count.specs.Seeing.{HoldsFilters};
 ghost use Rattle.pp_graph.specs.Trimmed.{IsTrimmedOf};

@@ -1,6 +1,6 @@
 -- The first three lines of a report's head.
 use Rattle.std.specs.Prelude.{ℕ, ℤ, pos, unsigned_abs, int_lt, List, [], ◌∷◌, ◌++◌, codes, if◌then◌else◌}
-use Rattle.pp_base.specs.Paths.{last_name}
+use Rattle.pp_base.specs.Words.{last_name}
 use Rattle.pp_units.specs.declared.head.Head.{Head}
 use Rattle.pp_units.specs.Shown.{Shown, shown, picked}
 use Rattle.pp_units.specs.Numbers.{value_text}

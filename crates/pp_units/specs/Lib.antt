@@ -8,3 +8,4 @@ pub mod BoundIn
 pub mod Fractions
 pub mod Head
 pub mod Rows
+pub mod Words

@@ -9,7 +9,7 @@ use Rattle.pp_wire.specs.Reading.{Read}
 use Rattle.pp_wire.specs.Varint.{groups, varint}
 use Rattle.pp_wire.specs.Spelling.{shortest, varint_bytes}
 use Rattle.pp_wire.proofs.Shortest.{last_group, next_group, all_groups}
-use Rattle.pp_base.specs.Results.{◌>>=◌}
+use Rattle.pp_base.specs.Words.{◌>>=◌}
 
 -- what was read took one group and `more` further ones, and its number lies below what these can spell
 pub record Took (bytes : List ℕ) (n : ℕ) (rest : List ℕ) : Type 0 where

@@ -11,7 +11,7 @@ use Rattle.pp_wire.specs.Walk.{Walk, and_then, walk_in, placed}
 use Rattle.pp_wire.specs.Fields.{Content, Varint, Eight, Four, Bytes, Item, number_in, eight, four, length_delimited, number, content, field_in, field, fields, numbers}
 use Rattle.pp_wire.proofs.Walks.{length-walk_of}
 use Rattle.pp_wire.proofs.Shrinking.{LeavesBelow, varint_below}
-use Rattle.pp_base.specs.Results.{◌>>=◌}
+use Rattle.pp_base.specs.Words.{◌>>=◌}
 
 -- no more numbers than bytes
 pub length-numbers : (bytes : List ℕ) (at : ℕ) → length (numbers bytes at).items ≤ length bytes

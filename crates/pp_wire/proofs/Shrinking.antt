@@ -9,7 +9,7 @@ use Rattle.pp_wire.specs.Varint.{groups, varint}
 use Rattle.pp_wire.specs.Walk.{placed}
 use Rattle.pp_wire.specs.Fields.{Varint, Eight, Four, Bytes, number_in, eight, four, length_delimited, number, content, field_in, field}
 use Rattle.pp_wire.proofs.Walks.{Shrinks}
-use Rattle.pp_base.specs.Results.{◌>>=◌}
+use Rattle.pp_base.specs.Words.{◌>>=◌}
 
 -- a value that was read leaves fewer bytes than that
 abbrev pub LeavesBelow : {A E : Type 0} → ℕ → Read A E → Type 0

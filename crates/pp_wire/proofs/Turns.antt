@@ -13,7 +13,7 @@ use Rattle.pp_wire.specs.Walk.{Walk, more, and_then, walk_in, walk_of, placed}
 use Rattle.pp_wire.specs.Fields.{Content, Eight, Four, Bytes, Item, number_in, eight, four, length_delimited, number, content, field_in, field_at, field, fields, numbers}
 use Rattle.pp_wire.proofs.Walks.{walk_more, walk_fails}
 use Rattle.pp_wire.proofs.Shrinking.{LeavesBelow, field_in_below, field_shrinks, number_shrinks}
-use Rattle.pp_base.specs.Results.{◌>>=◌}
+use Rattle.pp_base.specs.Words.{◌>>=◌}
 
 -- ---- what comes next
 

@@ -7,7 +7,7 @@ use Rattle.pp_wire.specs.declared.fault.WireKind.{WireKind}
 use Rattle.pp_wire.specs.declared.fault.WireKind.TheVariants.{Truncated, LongVarint}
 use Rattle.pp_wire.specs.Reading.{Read}
 use Rattle.pp_wire.specs.Varint.{groups, varint}
-use Rattle.pp_base.specs.Results.{◌>>=◌}
+use Rattle.pp_base.specs.Words.{◌>>=◌}
 
 -- what is still read counts from the scale on, beside the value of what was read
 abbrev pub with_front : ℕ → ℕ → Read ℕ WireKind → Read ℕ WireKind

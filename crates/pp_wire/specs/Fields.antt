@@ -10,7 +10,7 @@ use Rattle.pp_wire.specs.declared.field.Field.{Field}
 use Rattle.pp_wire.specs.Reading.{Read}
 use Rattle.pp_wire.specs.Varint.{varint}
 use Rattle.pp_wire.specs.Walk.{Walk, walk_of, placed}
-use Rattle.pp_base.specs.Results.{◌>>=◌}
+use Rattle.pp_base.specs.Words.{◌>>=◌}
 
 -- a payload without where it lies in memory; with a run of bytes the place of the first
 pub data Content : Type 0 where

@@ -3,7 +3,7 @@ use Rattle.std.specs.Prelude.{ℕ, zero, suc, ◌+◌, ◌-◌, ◌*◌, ◌%◌
 use Rattle.pp_wire.specs.declared.fault.WireKind.{WireKind}
 use Rattle.pp_wire.specs.declared.fault.WireKind.TheVariants.{Truncated, LongVarint}
 use Rattle.pp_wire.specs.Reading.{Read}
-use Rattle.pp_base.specs.Results.{◌>>=◌}
+use Rattle.pp_base.specs.Words.{◌>>=◌}
 
 -- groups of seven bits, lowest first, at most as many as the number says: a byte from 128 on has another behind it
 unfoldable pub groups : ℕ → List ℕ → Read ℕ WireKind

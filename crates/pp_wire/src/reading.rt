@@ -1,7 +1,7 @@
 //! One field at the front of bytes, by the steps of the wire format: tag, number, kind, payload.
 
 ghost use Rattle.std.specs.Prelude.{◌≡◌, ◌<◌, ◌≤◌, ◌^◌, ◌%◌, length, IfOk};
-ghost use Rattle.pp_base.specs.Results.{Gives};
+ghost use Rattle.pp_base.specs.Words.{Gives};
 ghost use Rattle.pp_wire.specs.Place.{end_of};
 ghost use Rattle.pp_wire.specs.Fields.{item, content_of, number_in, eight, four, length_delimited, number, content, field_in};
 

@@ -1,7 +1,7 @@
 //! Varints, at the front of bytes.
 
 ghost use Rattle.std.specs.Prelude.{◌≡◌, ◌+◌, ◌-◌, ◌*◌, ◌^◌, ◌<◌, ◌≤◌, [], ◌∷◌, length, take, Ok, IfOk, IfSome, MatchOption};
-ghost use Rattle.pp_base.specs.Results.{Gives};
+ghost use Rattle.pp_base.specs.Words.{Gives};
 ghost use Rattle.pp_wire.specs.Varint.{varint};
 ghost use Rattle.pp_wire.specs.Spelling.{varint_bytes};
 

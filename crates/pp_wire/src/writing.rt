@@ -3,7 +3,7 @@
 ghost use Rattle.std.specs.Prelude.{◌≡◌, ◌≤◌, ◌<◌, ◌^◌, ◌++◌, length, take, OnOk, OnErr};
 ghost use Rattle.std.specs.List.{flat_map};
 ghost use Rattle.pp_wire.specs.Spelling.{varint_bytes, tag_bytes, number_field, bytes_field, packed_field};
-ghost use Rattle.pp_base.specs.Grew.{Grew};
+ghost use Rattle.pp_base.specs.Words.{Grew};
 
 use crate::varint::{varint_into, varint_len};
 use pp_base::{Memory, Text, whole_or_nothing};

@@ -1,5 +1,5 @@
 use Rattle.std.proofs.Common.{codes}
-use Rattle.pp_units.specs.Head.{facts, facts_text}
+use Rattle.pp_units.specs.Words.{facts, facts_text}
 use Rattle.pp_account.specs.Account.{account_heading}
 use Rattle.pp_account.specs.Lines.{sample_portion_lines, node_portion_lines}
 use Rattle.pp_account.proofs.Putting.{joined_five}

@@ -1,6 +1,6 @@
 use Rattle.std.proofs.Common.{ap, ◌∙◌}
 use Rattle.pp_base.proofs.TextLemmas.{appended}
-use Rattle.pp_units.specs.Head.{facts}
+use Rattle.pp_units.specs.Words.{facts}
 use Rattle.pp_account.specs.Lines.{account_lines}
 use Rattle.pp_account.proofs.Lining.{text_is}
 use Rattle.pp_account.proofs.account.write_account.Goals as goal

@@ -1,6 +1,5 @@
 use Rattle.std.proofs.Common.{◌≡◌, ◌<◌, Bool, length, sym, ◌∙◌, arith}
-use Rattle.pp_model.specs.declared.frame.Frame.{Frame}
-use Rattle.pp_model.specs.FrameTexts.{written}
+use Rattle.pp_model.specs.Words.{Frame, written}
 use Rattle.pp_stack.specs.Filters.{finds_frame}
 use Rattle.pp_stack.proofs.RunLemmas.{no_frame}
 use Rattle.pp_account.proofs.Each.{each_more, each_not, slice_any}

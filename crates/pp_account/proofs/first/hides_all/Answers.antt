@@ -1,5 +1,5 @@
 use Rattle.std.proofs.Common.{◌≡◌, Bool, true, false, not, ◌&&◌, sym, ap, ◌∙◌}
-use Rattle.pp_model.specs.FrameTexts.{written}
+use Rattle.pp_model.specs.Words.{written}
 use Rattle.pp_stack.specs.Filters.{has_no_items}
 use Rattle.pp_account.proofs.Each.{emptied_is, some_items}
 use Rattle.pp_account.proofs.first.hides_all.Goals as goal

@@ -1,5 +1,5 @@
 use Rattle.std.proofs.Common.{length, ◌<◌}
-use Rattle.pp_units.specs.Head.{facts}
+use Rattle.pp_units.specs.Words.{facts}
 use Rattle.pp_account.specs.Account.{dropping}
 use Rattle.pp_account.specs.Lines.{filter_line}
 use Rattle.pp_account.proofs.Putting.{putting_more}

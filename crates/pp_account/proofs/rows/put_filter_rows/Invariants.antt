@@ -1,6 +1,6 @@
 use Rattle.std.proofs.Common.{◌≡◌}
-use Rattle.pp_model.specs.Finders.{Finders}
-use Rattle.pp_units.specs.Head.{facts}
+use Rattle.pp_model.specs.Words.{Finders}
+use Rattle.pp_units.specs.Words.{facts}
 use Rattle.pp_count.specs.Seeing.{HoldsFilters}
 use Rattle.pp_account.specs.Account.{dropping}
 use Rattle.pp_account.specs.Lines.{filter_line}

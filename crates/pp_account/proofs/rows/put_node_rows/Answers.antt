@@ -1,6 +1,6 @@
 use Rattle.std.proofs.Common.{codes}
 use Rattle.pp_base.proofs.TextLemmas.{joined_four}
-use Rattle.pp_units.specs.Head.{facts}
+use Rattle.pp_units.specs.Words.{facts}
 use Rattle.pp_account.specs.Lines.{portion_line}
 use Rattle.pp_account.proofs.rows.put_node_rows.Goals as goal
 

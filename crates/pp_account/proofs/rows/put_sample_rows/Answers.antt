@@ -1,7 +1,7 @@
 use Rattle.std.proofs.Common.{codes}
 use Rattle.std.specs.List.{flat_map}
 use Rattle.pp_base.proofs.TextLemmas.{joined_four}
-use Rattle.pp_units.specs.Head.{facts}
+use Rattle.pp_units.specs.Words.{facts}
 use Rattle.pp_account.specs.Account.{account_line, bare_row, dropping}
 use Rattle.pp_account.specs.Lines.{filter_line, portion_line}
 use Rattle.pp_account.proofs.rows.put_sample_rows.Goals as goal

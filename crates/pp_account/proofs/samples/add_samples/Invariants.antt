@@ -1,5 +1,5 @@
 use Rattle.std.proofs.Common.{◌≡◌, take}
-use Rattle.pp_model.specs.Finders.{Finders}
+use Rattle.pp_model.specs.Words.{Finders}
 use Rattle.pp_count.specs.Scope.{config_of}
 use Rattle.pp_count.specs.Seeing.{HoldsFilters}
 use Rattle.pp_account.specs.Portions.{portions_of}

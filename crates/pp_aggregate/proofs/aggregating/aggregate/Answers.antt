@@ -1,5 +1,5 @@
 use Rattle.std.proofs.Common.{sym, ap, ◌∙◌, subst}
-use Rattle.pp_model.specs.Rules.{NoRuleFails, IsCompact}
+use Rattle.pp_model.specs.Words.{NoRuleFails, IsCompact}
 use Rattle.pp_aggregate.specs.Aggregated.{aggregated}
 use Rattle.pp_aggregate.proofs.ValidLemmas.{aggregated_valid, aggregated_compact}
 use Rattle.pp_aggregate.proofs.aggregating.aggregate.Goals as goal

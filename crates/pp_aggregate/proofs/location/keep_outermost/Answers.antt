@@ -1,6 +1,6 @@
 use Rattle.std.proofs.Common.{◌≡◌, ℕ, ◌-◌, ◌<◌, List, [], ◌∷◌, length, get_or, set, take, sym, ap, ◌∙◌, arith}
 use Rattle.std.proofs.lemmas.Option.{get_or_from_slice_get}
-use Rattle.pp_model.specs.declared.profile.Line.{Line}
+use Rattle.pp_model.specs.Words.{Line}
 use Rattle.pp_aggregate.specs.Aggregated.{outermost}
 use Rattle.pp_aggregate.proofs.LastLemmas.{last_of, last_read, outermost_last}
 use Rattle.pp_aggregate.proofs.location.keep_outermost.Goals as goal

@@ -1,5 +1,5 @@
 use Rattle.std.proofs.Common.{List, length, ◌≡◌, ◌≤◌}
-use Rattle.pp_grain.specs.declared.key.Key.{Key}
+use Rattle.pp_grain.specs.Words.{Key}
 use Rattle.pp_calltree.proofs.LinkLemmas.{NextsFrom}
 use Rattle.pp_calltree.proofs.linking.nexts_of.Given as goal
 

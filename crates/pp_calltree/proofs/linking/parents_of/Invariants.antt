@@ -1,5 +1,5 @@
 use Rattle.std.proofs.Common.{List}
-use Rattle.pp_grain.specs.declared.key.Key.{Key}
+use Rattle.pp_grain.specs.Words.{Key}
 use Rattle.pp_calltree.specs.Links.{nodes_by}
 use Rattle.pp_calltree.proofs.LinkLemmas.{ParentsTo}
 use Rattle.pp_calltree.proofs.linking.parents_of.Given as goal

@@ -1,5 +1,5 @@
 use Rattle.std.proofs.Common.{List, drop, map, ap, ◌∙◌}
-use Rattle.pp_model.specs.declared.profile.Sample.{Sample}
+use Rattle.pp_model.specs.Words.{Sample}
 use Rattle.pp_stack.specs.Runs.{kept_if}
 use Rattle.pp_count.specs.Scope.{samples_in_scope}
 use Rattle.pp_count.proofs.Chosen.{dropped_at, dropped_within}

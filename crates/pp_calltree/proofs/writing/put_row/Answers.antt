@@ -1,8 +1,7 @@
 use Rattle.std.proofs.Common.{w64, FitsSigned, rules}
 use Rattle.std.proofs.lemmas.Int.{to_z-of_z}
 use Rattle.pp_base.proofs.TextLemmas.{joined_two}
-use Rattle.pp_units.specs.Rows.{columns_text, name_end}
-use Rattle.pp_units.specs.Shown.{shown}
+use Rattle.pp_units.specs.Words.{columns_text, name_end, shown}
 use Rattle.pp_calltree.specs.Laid.{node_row}
 use Rattle.pp_calltree.specs.Text.{indented}
 use Rattle.pp_calltree.proofs.writing.put_row.Goals as goal

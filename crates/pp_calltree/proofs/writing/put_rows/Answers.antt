@@ -1,6 +1,6 @@
 use Rattle.std.proofs.Common.{w64, to_z, of_z, arith}
-use Rattle.pp_units.specs.Shown.{shown}
-use Rattle.pp_grain.specs.Keys.{IsKeyOf}
+use Rattle.pp_units.specs.Words.{shown}
+use Rattle.pp_grain.specs.Words.{IsKeyOf}
 use Rattle.pp_calltree.specs.declared.tree.PathNode.{PathNode}
 use Rattle.pp_calltree.proofs.Read.{at_found}
 use Rattle.pp_calltree.proofs.RunSums.{read_back}

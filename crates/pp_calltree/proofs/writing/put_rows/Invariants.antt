@@ -1,4 +1,4 @@
-use Rattle.pp_units.specs.Shown.{shown}
+use Rattle.pp_units.specs.Words.{shown}
 use Rattle.pp_calltree.proofs.Summing.{RowsTo}
 use Rattle.pp_calltree.proofs.writing.put_rows.Given as goal
 

@@ -1,8 +1,7 @@
 use Rattle.std.proofs.Common.{◌∙◌, ap, ◌++◌, map, w64, FitsSigned, rules}
 use Rattle.std.proofs.lemmas.Int.{to_z-of_z}
 use Rattle.pp_base.proofs.TextLemmas.{joined_two}
-use Rattle.pp_units.specs.Rows.{showing_line, dropped_line, dropped_nodes}
-use Rattle.pp_units.specs.Shown.{shown}
+use Rattle.pp_units.specs.Words.{showing_line, dropped_line, dropped_nodes, shown}
 use Rattle.pp_calltree.specs.Laid.{node_row}
 use Rattle.pp_calltree.specs.Text.{flats_sum}
 use Rattle.pp_calltree.proofs.writing.put_summary.Goals as goal

@@ -1,6 +1,6 @@
 use Rattle.std.proofs.Common.{◌++◌, List}
 use Rattle.std.specs.Prelude.{Option}
-use Rattle.pp_model.specs.declared.profile.Profile.{Profile}
+use Rattle.pp_model.specs.Words.{Profile}
 use Rattle.pp_check.specs.declared.fault.TableFault.{TableFault}
 use Rattle.pp_check.specs.declared.known.IdSet.{IdSet}
 use Rattle.pp_check.specs.FirstFault.{text_faults, mapping_faults, function_faults, location_faults, reference_faults}

@@ -1,5 +1,5 @@
 use Rattle.std.proofs.Common.{sym, subst}
-use Rattle.pp_model.specs.declared.profile.Profile.{Profile}
+use Rattle.pp_model.specs.Words.{Profile}
 use Rattle.pp_share.specs.Hashes.{AreOwnHashes}
 use Rattle.pp_check.proofs.Keeps.{keeps_rules}
 use Rattle.pp_check.proofs.SoundLemmas.{ids_sound}

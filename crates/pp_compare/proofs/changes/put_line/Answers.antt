@@ -1,7 +1,6 @@
 use Rattle.std.proofs.Common.{ap}
 use Rattle.pp_base.proofs.TextLemmas.{joined_two, put_is}
-use Rattle.pp_grain.specs.Keys.{key_written}
-use Rattle.pp_grain.specs.Naming.{name_text}
+use Rattle.pp_grain.specs.Words.{key_written, name_text}
 use Rattle.pp_count.specs.Table.{written_key}
 use Rattle.pp_graph.proofs.KeyRowLemmas.{name_written}
 use Rattle.pp_cells.specs.Cells.{cell_text, last_cell}

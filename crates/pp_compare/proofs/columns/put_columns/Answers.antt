@@ -1,8 +1,7 @@
 use Rattle.std.proofs.Common.{w64, FitsSigned, rules}
 use Rattle.std.proofs.lemmas.Int.{to_z-of_z}
 use Rattle.pp_base.proofs.TextLemmas.{joined_four}
-use Rattle.pp_units.specs.Numbers.{right_text}
-use Rattle.pp_units.specs.Shown.{shown}
+use Rattle.pp_units.specs.Words.{right_text, shown}
 use Rattle.pp_compare.specs.Compare.{change_text, spaced_value}
 use Rattle.pp_compare.proofs.columns.put_columns.Goals as goal
 

@@ -1,9 +1,7 @@
 use Rattle.std.proofs.Common.{◌++◌, length, w64}
 use Rattle.std.specs.List.{flat_map}
 use Rattle.std.proofs.lemmas.Int.{to_z-of_z}
-use Rattle.pp_units.specs.Head.{facts, facts_text}
-use Rattle.pp_units.specs.Rows.{dropped_line, limited_line, dropped_nodes}
-use Rattle.pp_units.specs.Shown.{shown}
+use Rattle.pp_units.specs.Words.{facts, facts_text, dropped_line, limited_line, dropped_nodes, shown}
 use Rattle.pp_compare.specs.Compare.{compare_heading, difference_line}
 use Rattle.pp_compare.specs.Rows.{compared_at, whole_at}
 use Rattle.pp_compare.proofs.Putting.{joined_five}

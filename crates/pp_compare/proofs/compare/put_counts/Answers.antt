@@ -1,6 +1,6 @@
 use Rattle.std.proofs.Common.{length}
 use Rattle.pp_base.proofs.TextLemmas.{joined_two}
-use Rattle.pp_units.specs.Rows.{dropped_line, limited_line, dropped_nodes}
+use Rattle.pp_units.specs.Words.{dropped_line, limited_line, dropped_nodes}
 use Rattle.pp_compare.proofs.compare.put_counts.Goals as goal
 
 pub returns : goal.returns

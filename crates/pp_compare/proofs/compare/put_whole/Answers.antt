@@ -1,8 +1,7 @@
 use Rattle.std.proofs.Common.{w64, FitsSigned, codes, rules}
 use Rattle.std.proofs.lemmas.Int.{to_z-of_z}
 use Rattle.pp_base.proofs.TextLemmas.{joined_two}
-use Rattle.pp_units.specs.Rows.{name_end}
-use Rattle.pp_units.specs.Shown.{shown}
+use Rattle.pp_units.specs.Words.{name_end, shown}
 use Rattle.pp_compare.specs.Compare.{difference_columns}
 use Rattle.pp_compare.specs.Rows.{wrapped}
 use Rattle.pp_compare.proofs.compare.put_whole.Goals as goal

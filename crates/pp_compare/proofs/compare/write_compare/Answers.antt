@@ -1,7 +1,7 @@
 use Rattle.std.proofs.Common.{◌∙◌, w64, FitsSigned, to_z, of_z, rules}
 use Rattle.std.proofs.lemmas.Int.{to_z-of_z}
 use Rattle.pp_base.proofs.TextLemmas.{appended}
-use Rattle.pp_units.specs.Head.{facts}
+use Rattle.pp_units.specs.Words.{facts}
 use Rattle.pp_compare.proofs.Ranking.{ranked_is}
 use Rattle.pp_compare.proofs.compare.write_compare.Goals as goal
 

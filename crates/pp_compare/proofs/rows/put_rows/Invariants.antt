@@ -1,4 +1,4 @@
-use Rattle.pp_units.specs.Shown.{shown}
+use Rattle.pp_units.specs.Words.{shown}
 use Rattle.pp_compare.specs.Compare.{difference_line}
 use Rattle.pp_compare.specs.Rows.{compared_at}
 use Rattle.pp_compare.proofs.Putting.{Putting}

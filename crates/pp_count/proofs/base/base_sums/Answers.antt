@@ -2,7 +2,7 @@ use Rattle.std.proofs.Common.{◌≡◌, w64, length, sym, ap, ◌∙◌, subst}
 use Rattle.std.specs.List.{filter}
 use Rattle.std.proofs.lemmas.Int.{fits_signed_from_abs, to_z-of_z}
 use Rattle.std.proofs.lemmas.Result.{IfOk-weaker}
-use Rattle.pp_model.specs.Rules.{IsCompact}
+use Rattle.pp_model.specs.Words.{IsCompact}
 use Rattle.pp_count.specs.declared.base.BaseSums.{BaseSums}
 use Rattle.pp_count.specs.Base.{is_base_number}
 use Rattle.pp_count.specs.Rising.{AreRisingBetween}

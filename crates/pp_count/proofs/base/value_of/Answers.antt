@@ -2,7 +2,7 @@ use Rattle.std.proofs.Common.{rules, ◌<◌, w64, length, sym, ap, ◌∙◌, a
 use Rattle.std.proofs.lemmas.Int.{to_z-of_z}
 use Rattle.std.proofs.lemmas.Option.{get_or_from_slice_get}
 use mir.Val.{SFits}
-use Rattle.pp_model.specs.Values.{no_sample}
+use Rattle.pp_model.specs.Words.{no_sample}
 use Rattle.pp_count.specs.Column.{selected}
 use Rattle.pp_count.proofs.Chosen.{is_read}
 use Rattle.pp_count.proofs.base.value_of.Goals as goal

@@ -1,5 +1,5 @@
 use Rattle.std.proofs.Common.{◌≡◌, refl, subst, sym, arith}
-use Rattle.pp_model.specs.Finders.{Finders}
+use Rattle.pp_model.specs.Words.{Finders}
 use Rattle.pp_count.specs.Counts.{total_of}
 use Rattle.pp_count.specs.Seeing.{HoldsFilters}
 use Rattle.pp_count.specs.Counted.{AreKeyed, IsCountedOf}

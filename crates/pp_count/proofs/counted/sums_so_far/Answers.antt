@@ -1,5 +1,5 @@
 use Rattle.std.proofs.Common.{ℕ, All, length, sym, subst, arith}
-use Rattle.pp_grain.specs.Keys.{IsKeyOf}
+use Rattle.pp_grain.specs.Words.{IsKeyOf}
 use Rattle.pp_count.specs.declared.tally.Tally.{Tally}
 use Rattle.pp_count.specs.Tally.{tally_at}
 use Rattle.pp_count.proofs.Sizes.{fit_sums}

@@ -1,5 +1,5 @@
 use Rattle.std.proofs.Common.{◌≡◌, ◌++◌, refl, ap, ◌∙◌}
-use Rattle.pp_model.specs.Frames.{rows, lines_at}
+use Rattle.pp_model.specs.Words.{rows, lines_at}
 use Rattle.pp_model.proofs.FrameLemmas.{rows_of_profile}
 use Rattle.pp_count.proofs.frames.frames_of.Goals as goal
 

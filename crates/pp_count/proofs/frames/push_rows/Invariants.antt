@@ -1,6 +1,6 @@
 use Rattle.std.proofs.Common.{◌≡◌, ◌++◌, map}
 use Rattle.std.specs.List.{range_with_len}
-use Rattle.pp_model.specs.Frames.{row_frame}
+use Rattle.pp_model.specs.Words.{row_frame}
 use Rattle.pp_count.proofs.frames.push_rows.Given as goal
 
 -- the rows so far have been added

@@ -1,4 +1,4 @@
-use Rattle.pp_model.specs.Finders.{TagFinders}
+use Rattle.pp_model.specs.Words.{TagFinders}
 use Rattle.pp_tags.specs.TagFilters.{filter_in_force}
 use Rattle.pp_tags.proofs.SomeFinders.{finders_found, parts_of, some_finders, some_parts}
 use Rattle.pp_count.proofs.laws.verdicts_are_found.Goals as goal

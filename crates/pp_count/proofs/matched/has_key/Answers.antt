@@ -2,7 +2,7 @@ use Rattle.std.proofs.Common.{◌≡◌, Bool, true, false, ◌&&◌, ap, subst,
 use Rattle.std.specs.List.{list_any}
 use Rattle.std.proofs.lemmas.Bool.{false≢true}
 use Rattle.std.proofs.lemmas.List.Elements.{All-weaker}
-use Rattle.pp_model.specs.Rules.{NoRuleFails, is_text, label_has_texts}
+use Rattle.pp_model.specs.Words.{NoRuleFails, is_text, label_has_texts}
 use Rattle.pp_tags.specs.Labels.{key_text}
 use Rattle.pp_tags.specs.Verdicts.{verdict_on}
 use Rattle.pp_tags.proofs.AlikeLemmas.{list_any_alike}

@@ -1,6 +1,6 @@
 use Rattle.std.proofs.Common.{◌∙◌, ◌+◌, ◌-◌, ap, sym, take, drop, option_map, arith}
 use Rattle.std.proofs.lemmas.List.Elements.{All-take, All-drop}
-use Rattle.pp_model.specs.Conditions.{IsSampleOf, RefersTo}
+use Rattle.pp_model.specs.Words.{IsSampleOf, RefersTo}
 use Rattle.pp_count.specs.Matches.{matches_among}
 use Rattle.pp_count.proofs.Chosen.{all_samples}
 use Rattle.pp_count.proofs.Pieces.{all_members, all_refer}

@@ -1,5 +1,5 @@
 use Rattle.std.proofs.Common.{subst}
-use Rattle.pp_model.specs.Rules.{IsCompact}
+use Rattle.pp_model.specs.Words.{IsCompact}
 use Rattle.pp_count.proofs.Matching.{none_matched}
 use Rattle.pp_count.proofs.matched.some_frame.Goals as goal
 

@@ -1,5 +1,5 @@
 use Rattle.std.proofs.Common.{subst, sym}
-use Rattle.pp_model.specs.Conditions.{IsSampleOf}
+use Rattle.pp_model.specs.Words.{IsSampleOf}
 use Rattle.pp_count.proofs.matched.some_label.Goals as goal
 
 pub has_key-requires : goal.has_key-requires

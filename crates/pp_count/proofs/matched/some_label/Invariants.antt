@@ -1,6 +1,6 @@
 use Rattle.std.proofs.Common.{◌≡◌, false, take}
 use Rattle.std.specs.List.{list_any}
-use Rattle.pp_model.specs.Finders.{Finder}
+use Rattle.pp_model.specs.Words.{Finder}
 use Rattle.pp_stack.specs.Filters.{AreVerdicts}
 use Rattle.pp_count.specs.Matches.{label_has}
 use Rattle.pp_count.proofs.matched.some_label.Given as goal

@@ -1,5 +1,5 @@
 use Rattle.std.proofs.Common.{subst, sym}
-use Rattle.pp_model.specs.Conditions.{IsSampleOf}
+use Rattle.pp_model.specs.Words.{IsSampleOf}
 use Rattle.pp_count.proofs.matched.some_selected.Goals as goal
 
 pub selects_or-requires-clause-member : goal.selects_or-requires-clause-member

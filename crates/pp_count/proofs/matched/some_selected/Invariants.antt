@@ -1,6 +1,6 @@
 use Rattle.std.proofs.Common.{◌≡◌, false, take}
 use Rattle.std.specs.List.{list_any}
-use Rattle.pp_model.specs.Finders.{TagFinders}
+use Rattle.pp_model.specs.Words.{TagFinders}
 use Rattle.pp_tags.specs.TagFilters.{AreTagVerdicts, selects_or}
 use Rattle.pp_count.proofs.matched.some_selected.Given as goal
 

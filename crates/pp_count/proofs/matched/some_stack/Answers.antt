@@ -1,5 +1,5 @@
 use Rattle.std.proofs.Common.{subst, sym}
-use Rattle.pp_model.specs.Conditions.{RefersTo}
+use Rattle.pp_model.specs.Words.{RefersTo}
 use Rattle.pp_count.proofs.matched.some_stack.Goals as goal
 
 pub has_frame-requires-clause-refers : goal.has_frame-requires-clause-refers

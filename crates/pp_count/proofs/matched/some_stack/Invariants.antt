@@ -1,7 +1,6 @@
 use Rattle.std.proofs.Common.{◌≡◌, false, take}
 use Rattle.std.specs.List.{list_any}
-use Rattle.pp_model.specs.Finders.{Finder, Finders}
-use Rattle.pp_model.specs.Judged.{judged}
+use Rattle.pp_model.specs.Words.{Finder, Finders, judged}
 use Rattle.pp_stack.specs.Filters.{AreVerdicts}
 use Rattle.pp_count.specs.Matches.{stack_has}
 use Rattle.pp_count.proofs.matched.some_stack.Given as goal

@@ -1,7 +1,7 @@
 use Rattle.std.proofs.Common.{rules, w64, ◌+◌, ◌<◌, ◌^◌, nat_abs, List, drop, map, sym, ap, ◌∙◌, subst}
 use Rattle.std.proofs.lemmas.Int.{to_z-of_z}
 use mir.Val.{SFits}
-use Rattle.pp_model.specs.declared.profile.Sample.{Sample}
+use Rattle.pp_model.specs.Words.{Sample}
 use Rattle.pp_count.specs.Tally.{tally_at, with_seen}
 use Rattle.pp_count.specs.Edges.{counted_keys}
 use Rattle.pp_count.specs.Scope.{over_of, samples_in_scope, HasTotals}

@@ -1,5 +1,5 @@
 use Rattle.std.proofs.Common.{subst, arith}
-use Rattle.pp_model.specs.Rules.{IsCompact}
+use Rattle.pp_model.specs.Words.{IsCompact}
 use Rattle.pp_model.proofs.FrameLemmas.{one_le_read, within_read}
 use Rattle.pp_count.proofs.part.frames_on.Goals as goal
 

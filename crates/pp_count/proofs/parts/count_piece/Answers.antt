@@ -1,6 +1,6 @@
 use Rattle.std.proofs.Common.{◌*◌, refl, subst, sym, arith}
 use Rattle.std.proofs.lemmas.Result.{IfOk-weaker}
-use Rattle.pp_model.specs.Rules.{IsCompact}
+use Rattle.pp_model.specs.Words.{IsCompact}
 use Rattle.pp_steal.specs.declared.piece.TheConstants.{PIECE}
 use Rattle.pp_steal.specs.Pieces.{piece_of}
 use Rattle.pp_count.specs.Scope.{IsSoundScope, AreCountable, IsPartOf, samples_in_scope}

@@ -1,7 +1,7 @@
 use Rattle.std.proofs.Common.{◌<◌, All, length, get_or, map, sym, ap, ◌∙◌, subst, arith}
 use Rattle.std.proofs.lemmas.List.{length-map}
 use Rattle.std.proofs.lemmas.Result.{IfOk-weaker}
-use Rattle.pp_model.specs.Rules.{IsCompact}
+use Rattle.pp_model.specs.Words.{IsCompact}
 use Rattle.pp_count.specs.Edges.{AreOnce, is_marked}
 use Rattle.pp_count.proofs.Edged.{HasEdges, pair_numbers, ends_within, edges_are, all_edges, names_within, kept_apart}
 use Rattle.pp_count.proofs.recounting.edges_about.Given as given

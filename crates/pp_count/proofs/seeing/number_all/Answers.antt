@@ -1,6 +1,5 @@
 use Rattle.std.proofs.Common.{refl, ap, ◌∙◌, subst, arith}
-use Rattle.pp_model.specs.Rules.{IsCompact}
-use Rattle.pp_model.specs.Frames.{frames_from}
+use Rattle.pp_model.specs.Words.{IsCompact, frames_from}
 use Rattle.pp_model.proofs.FrameLemmas.{one_le_read, within_read}
 use Rattle.pp_count.specs.Seeing.{keys_of_stack}
 use Rattle.pp_count.proofs.Located.{located_none, located_more, located_all}

@@ -1,5 +1,5 @@
 use Rattle.std.proofs.Common.{map, take}
-use Rattle.pp_model.specs.FrameTexts.{written}
+use Rattle.pp_model.specs.Words.{written}
 use Rattle.pp_count.proofs.Numbering.{Numbering}
 use Rattle.pp_count.proofs.table.number_frames.Given as goal
 

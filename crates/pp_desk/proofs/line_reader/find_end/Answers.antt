@@ -1,7 +1,7 @@
 use Rattle.std.proofs.Common.{◌≡◌, ◌≢◌, ℕ, false, arith, sym, take_all}
 use Rattle.std.proofs.lemmas.Bool.Decides.{nat_tests}
 use Rattle.std.proofs.lemmas.List.Elements.{All-more, All-same}
-use Rattle.pp_base.specs.Marks.{is_line_end}
+use Rattle.pp_base.specs.Words.{is_line_end}
 use Rattle.pp_desk.proofs.line_reader.find_end.Goals as goal
 
 no_end : (byte : ℕ) → byte ≢ 10 → is_line_end byte ≡ false

@@ -1,6 +1,5 @@
 use Rattle.std.proofs.Common.{◌≡◌, ◌++◌, [], ◌∷◌, List, sym, subst, ◌∙◌}
-use Rattle.pp_model.specs.declared.profile.Sample.{Sample}
-use Rattle.pp_model.specs.Finders.{no_parts}
+use Rattle.pp_model.specs.Words.{Sample, no_parts}
 use Rattle.pp_base.proofs.TextLemmas.{then_ok}
 use Rattle.pp_tags.proofs.SomeFinders.{finders_found, some_finders}
 use Rattle.pp_dump.specs.Places.{AddsSamples}

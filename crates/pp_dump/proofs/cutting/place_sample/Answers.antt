@@ -1,9 +1,7 @@
 use Rattle.std.proofs.Common.{ℕ, Bool, List, [], map, sym, ap, subst, ◌∙◌}
 use Rattle.std.proofs.lemmas.Bool.{false≢true}
 use Rattle.std.proofs.lemmas.List.{append-nil}
-use Rattle.pp_model.specs.declared.frame.Frame.{Frame}
-use Rattle.pp_model.specs.declared.profile.Profile.{Profile}
-use Rattle.pp_model.specs.Rules.{NoRuleFails, IsCompact}
+use Rattle.pp_model.specs.Words.{Frame, Profile, NoRuleFails, IsCompact}
 use Rattle.pp_stack.specs.Runs.{kept_if}
 use Rattle.pp_restack.specs.Stacks.{by_place, cut_location}
 use Rattle.pp_restack.specs.Places.{KeepsPlaces, AreEntries, AppendsEntries}

@@ -1,6 +1,5 @@
 use Rattle.std.proofs.Common.{ap, ◌∙◌, List}
-use Rattle.pp_model.specs.declared.profile.Function.{Function}
-use Rattle.pp_model.specs.Lookup.{place_read}
+use Rattle.pp_model.specs.Words.{Function, place_read}
 use Rattle.pp_model.proofs.CompactLemmas.{find_by_place}
 use Rattle.pp_model.proofs.LookupLemmas.{no_function}
 use Rattle.pp_dump.proofs.locations.function_with_id.Goals as goal

@@ -1,7 +1,7 @@
 use Rattle.std.proofs.Common.{◌++◌}
 use Rattle.std.specs.List.{flat_map}
 use Rattle.pp_base.proofs.TextLemmas.{joined_two}
-use Rattle.pp_model.specs.Lookup.{text_of}
+use Rattle.pp_model.specs.Words.{text_of}
 use Rattle.pp_dump.specs.Raw.{raw_comment, url_line, period_type_line, numbers_text}
 use Rattle.pp_base.proofs.TextLemmas.{then_more}
 use Rattle.pp_dump.proofs.raw.put_header.Goals as goal

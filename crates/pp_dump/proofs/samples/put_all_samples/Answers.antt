@@ -3,7 +3,7 @@ use Rattle.std.specs.List.{flat_map}
 use Rattle.std.proofs.lemmas.Grind.{div_ceil_times, flat_map-append}
 use Rattle.std.proofs.Math.Seq.{take-add}
 use Rattle.std.proofs.lemmas.List.{append-nil, take_all}
-use Rattle.pp_model.specs.declared.profile.Sample.{Sample}
+use Rattle.pp_model.specs.Words.{Sample}
 use Rattle.pp_dump.specs.declared.samples.TheConstants.{WAVE}
 use Rattle.pp_dump.specs.Raw.{sample_lines}
 use Rattle.pp_dump.proofs.samples.put_all_samples.Goals as goal

@@ -1,11 +1,7 @@
 use Rattle.std.proofs.Common.{◌<◌, ◌^◌, List, [], sym, ap, subst, ◌∙◌}
 use Rattle.std.specs.List.{AllByRecursion}
 use Rattle.std.proofs.lemmas.List.{append-nil}
-use Rattle.pp_model.specs.declared.profile.Location.{Location}
-use Rattle.pp_model.specs.declared.profile.Mapping.{Mapping}
-use Rattle.pp_model.specs.declared.profile.Sample.{Sample}
-use Rattle.pp_model.specs.declared.profile.Profile.{Profile}
-use Rattle.pp_model.specs.Rules.{NoRuleFails, IsCompact}
+use Rattle.pp_model.specs.Words.{Location, Mapping, Sample, Profile, NoRuleFails, IsCompact}
 use Rattle.pp_count.specs.Counts.{samples_at}
 use Rattle.pp_restack.specs.Places.{ArePlaces, with_cut}
 use Rattle.pp_restack.proofs.CutValid.{own_places}

@@ -1,6 +1,6 @@
 use Rattle.std.proofs.Common.{sym, subst}
 use Rattle.std.specs.List.{AllByRecursion}
-use Rattle.pp_model.specs.Rules.{NoRuleFails}
+use Rattle.pp_model.specs.Words.{NoRuleFails}
 use Rattle.pp_restack.specs.Places.{IsCutSample}
 use Rattle.pp_restack.proofs.CutValid.{cut_valid}
 use Rattle.pp_dump.proofs.saved.cut_profile.Goals as goal

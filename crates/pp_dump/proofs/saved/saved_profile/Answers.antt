@@ -1,6 +1,5 @@
 use Rattle.std.proofs.Common.{rules, ◌≡◌, [], length, sym, ap, subst, ◌∙◌}
-use Rattle.pp_model.specs.declared.profile.Profile.{Profile}
-use Rattle.pp_model.specs.Rules.{NoRuleFails, IsCompact}
+use Rattle.pp_model.specs.Words.{Profile, NoRuleFails, IsCompact}
 use Rattle.pp_merge.specs.Merge.{contents, merged}
 use Rattle.pp_merge.specs.Settled.{IsSettled}
 use Rattle.pp_share.specs.Header.{header_of}

@@ -1,9 +1,6 @@
 use Rattle.std.proofs.Common.{◌≡◌, ◌<◌, ◌^◌, List, ap, subst, ◌∙◌}
 use Rattle.std.specs.List.{AllByRecursion}
-use Rattle.pp_model.specs.declared.profile.Location.{Location}
-use Rattle.pp_model.specs.declared.profile.Mapping.{Mapping}
-use Rattle.pp_model.specs.declared.profile.Profile.{Profile}
-use Rattle.pp_model.specs.Rules.{NoRuleFails, IsCompact}
+use Rattle.pp_model.specs.Words.{Location, Mapping, Profile, NoRuleFails, IsCompact}
 use Rattle.pp_restack.specs.Places.{with_cut}
 use Rattle.pp_dump.proofs.CutParts.{left_with}
 use Rattle.pp_dump.proofs.saved.whole_profile.Goals as goal

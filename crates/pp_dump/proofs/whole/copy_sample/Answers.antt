@@ -1,7 +1,6 @@
 use Rattle.std.proofs.Common.{◌≡◌, ◌++◌, true, [], ◌∷◌, refl, subst, ◌∙◌}
 use Rattle.pp_base.proofs.TextLemmas.{then_ok}
-use Rattle.pp_model.specs.Finders.{no_parts}
-use Rattle.pp_model.specs.Rules.{NoRuleFails, IsCompact}
+use Rattle.pp_model.specs.Words.{no_parts, NoRuleFails, IsCompact}
 use Rattle.pp_tags.proofs.SomeFinders.{finders_found, some_finders}
 use Rattle.pp_dump.proofs.AddingSamples.{adds_one, left_whole}
 use Rattle.pp_dump.proofs.whole.copy_sample.Goals as goal

@@ -1,5 +1,5 @@
 use Rattle.std.proofs.Common.{sym, subst}
-use Rattle.pp_model.specs.Rules.{NoRuleFails}
+use Rattle.pp_model.specs.Words.{NoRuleFails}
 use Rattle.pp_edit.proofs.copying.copy_valid.Goals as goal
 
 -- what holds of the profile holds of its copy

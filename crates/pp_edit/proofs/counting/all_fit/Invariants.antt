@@ -1,6 +1,6 @@
 use Rattle.std.proofs.Common.{ℕ, ◌<◌, ◌≤◌, ◌-◌, ◌^◌, nat_abs}
 use Rattle.std.specs.List.{sum_by}
-use Rattle.pp_model.specs.Sizes.{value_in}
+use Rattle.pp_model.specs.Words.{value_in}
 use Rattle.pp_edit.proofs.counting.all_fit.Given as goal
 
 -- the columns so far can be added up

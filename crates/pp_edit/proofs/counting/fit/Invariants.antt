@@ -1,6 +1,6 @@
 use Rattle.std.proofs.Common.{◌≡◌, ◌+◌, ◌-◌, ◌^◌, nat_abs, drop}
 use Rattle.std.specs.List.{sum_by}
-use Rattle.pp_model.specs.Sizes.{value_in}
+use Rattle.pp_model.specs.Words.{value_in}
 use Rattle.pp_edit.proofs.counting.fit.Given as goal
 
 -- what is left and the whole add up to the limit and what is still to come

@@ -1,7 +1,7 @@
 use Rattle.std.proofs.Common.{not, ◌∙◌, ap, rules}
 use Rattle.std.specs.List.{filter}
 use Rattle.std.proofs.lemmas.Fn.{filter_same}
-use Rattle.pp_model.specs.declared.profile.Label.{Label}
+use Rattle.pp_model.specs.Words.{Label}
 use Rattle.pp_edit.specs.Keys.{names_key}
 use Rattle.pp_edit.proofs.labelling.drop_labels.Goals as goal
 

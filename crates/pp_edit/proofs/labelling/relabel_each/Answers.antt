@@ -1,6 +1,6 @@
 use Rattle.std.proofs.Common.{◌++◌, ap, refl, ◌∙◌}
 use Rattle.std.proofs.lemmas.List.{length-set}
-use Rattle.pp_model.specs.declared.profile.Sample.{Sample}
+use Rattle.pp_model.specs.Words.{Sample}
 use Rattle.pp_share.proofs.ChangeLemmas.{change_next}
 use Rattle.pp_edit.specs.Keys.{names_key}
 use Rattle.pp_edit.specs.Labels.{relabelled_sample}

@@ -1,6 +1,5 @@
 use Rattle.std.proofs.Common.{ap, sym, subst, ◌∙◌}
-use Rattle.pp_model.specs.Rules.{IsCompact, NoRuleFails}
-use Rattle.pp_model.specs.Sizes.{IsCountable}
+use Rattle.pp_model.specs.Words.{IsCompact, NoRuleFails, IsCountable}
 use Rattle.pp_build.specs.Said.{said_samples}
 use Rattle.pp_edit.specs.Labels.{without_label}
 use Rattle.pp_edit.proofs.RelabelledLemmas.{without_is, without_said, without_valid, without_countable, without_compact}

@@ -1,7 +1,6 @@
 use Rattle.std.proofs.Common.{◌≡◌, ap, sym, subst, true, ◌∙◌, rules}
 use Rattle.std.specs.Prelude.{All}
-use Rattle.pp_model.specs.Rules.{IsCompact, NoRuleFails}
-use Rattle.pp_model.specs.Sizes.{IsCountable}
+use Rattle.pp_model.specs.Words.{IsCompact, NoRuleFails, IsCountable}
 use Rattle.pp_build.specs.Said.{said_samples}
 use Rattle.pp_share.specs.Described.{LabelText}
 use Rattle.pp_edit.specs.Labels.{has_label, has_number, with_label_set}

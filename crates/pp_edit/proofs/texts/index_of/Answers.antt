@@ -1,6 +1,6 @@
 use Rattle.std.proofs.Common.{◌≡◌, ℕ, List, [], ◌∷◌, ◌++◌, Result, Ok, Err, OnOk, sym, ap, ◌∙◌}
 use Rattle.std.specs.Str.{bytes_eq}
-use Rattle.pp_model.specs.FirstSight.{place_of, seen_with}
+use Rattle.pp_model.specs.Words.{place_of, seen_with}
 use Rattle.pp_edit.proofs.TextLemmas.{added, known}
 use Rattle.pp_edit.proofs.texts.index_of.Goals as goal
 use Rattle.pp_edit.proofs.texts.index_of.Goals.{then-place-len+in_ok-from_slice+in_ok-push, else-place-len}

@@ -1,5 +1,5 @@
 use Rattle.std.proofs.Common.{refl, ap, ◌∙◌}
-use Rattle.pp_desk.specs.Effects.{outside}
+use Rattle.pp_desk.specs.Words.{outside}
 use Rattle.pp_engine.specs.declared.ending.Cause.TheVariants as causes
 use Rattle.pp_engine.specs.Endings.{status_of}
 use Rattle.pp_engine.proofs.program.run_program.Goals as goal

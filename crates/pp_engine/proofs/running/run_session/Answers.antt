@@ -1,5 +1,5 @@
 use Rattle.std.proofs.Common.{ap}
-use Rattle.pp_desk.specs.World.{Told}
+use Rattle.pp_desk.specs.Words.{Told}
 use Rattle.pp_engine.proofs.Leaving.{leaves_whole, leaves_stopped}
 use Rattle.pp_engine.proofs.Runs.{ran_whole, ran_front, lines_front, unread_front, taken_front}
 use Rattle.pp_engine.proofs.running.run_session.Goals as goal

@@ -1,6 +1,6 @@
 use Rattle.std.proofs.Common.{subst}
 use Rattle.std.specs.Prelude.{Ok}
-use Rattle.pp_desk.specs.Went.{Went}
+use Rattle.pp_desk.specs.Words.{Went}
 use Rattle.pp_engine.specs.Reporting.{hand_out_made}
 use Rattle.pp_engine.proofs.Serving.{shell_reported}
 use Rattle.pp_engine.proofs.shell.obey.Goals as goal

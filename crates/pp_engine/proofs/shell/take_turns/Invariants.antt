@@ -1,5 +1,5 @@
 use Rattle.std.proofs.Common.{◌-◌}
-use Rattle.pp_desk.specs.Went.{IsOnWay}
+use Rattle.pp_desk.specs.Words.{IsOnWay}
 use Rattle.pp_engine.specs.declared.ending.Cause.TheVariants.{Done}
 use Rattle.pp_engine.specs.declared.shell.TheConstants.{MOST_LINES}
 use Rattle.pp_engine.specs.Shell.{turn}

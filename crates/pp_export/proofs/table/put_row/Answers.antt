@@ -2,7 +2,7 @@ use Rattle.std.proofs.Common.{pos, get_or, w64, FitsSigned, ap, rules}
 use Rattle.std.specs.Fmt.{signed_decimal}
 use Rattle.std.proofs.lemmas.Int.{to_z-of_z}
 use Rattle.pp_base.proofs.TextLemmas.{joined, put_is}
-use Rattle.pp_grain.specs.Naming.{name_text}
+use Rattle.pp_grain.specs.Words.{name_text}
 use Rattle.pp_count.specs.Table.{written_key}
 use Rattle.pp_graph.proofs.KeyRowLemmas.{name_written}
 use Rattle.pp_cells.specs.Cells.{cell, cell_text, last_cell}

@@ -1,6 +1,6 @@
 use Rattle.std.proofs.Common.{subst, sym}
 use Rattle.std.specs.Prelude.{Ok, Err, option_map}
-use Rattle.pp_desk.specs.Asked.{Asked}
+use Rattle.pp_desk.specs.Words.{Asked}
 use Rattle.pp_desk.proofs.AskedLemmas.{asked_by}
 use Rattle.pp_filter.specs.Asked.{filter}
 use Rattle.pp_filter.proofs.filtering.filter_at.Goals as goal

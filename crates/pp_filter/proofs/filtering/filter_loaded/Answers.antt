@@ -2,7 +2,7 @@ use Rattle.std.proofs.Common.{◌≡◌, subst}
 use Rattle.std.proofs.lemmas.Result.{err_from_is_err_and}
 use Rattle.pp_desk.proofs.Going.{wants}
 use Rattle.pp_desk.proofs.AskingLemmas.{asking_second, asking_gives}
-use Rattle.pp_model.specs.Rules.{IsCompact}
+use Rattle.pp_model.specs.Words.{IsCompact}
 use Rattle.pp_filter.specs.Asked.{filter_loaded, ask_option_patterns}
 use Rattle.pp_filter.specs.Filtered.{own_finders, saved_of}
 use Rattle.pp_filter.proofs.FilterLemmas.{filter_holds, can_save}

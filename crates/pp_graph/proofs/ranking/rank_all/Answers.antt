@@ -1,5 +1,5 @@
 use Rattle.std.proofs.Common.{refl, arith}
-use Rattle.pp_base.specs.declared.fraction.Fraction.{Fraction}
+use Rattle.pp_base.specs.Words.{Fraction}
 use Rattle.pp_graph.specs.Trimmed.{IsRankedOf, IsWholeRanking}
 use Rattle.pp_graph.proofs.Whole.{ok_as, free, counted_free, ranked_free}
 use Rattle.pp_graph.proofs.ranking.rank_all.Goals as goal

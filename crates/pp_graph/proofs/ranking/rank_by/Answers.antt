@@ -1,7 +1,6 @@
 use Rattle.std.proofs.Common.{◌≡◌, ◌<◌, ◌^◌, length, nat_abs, SFits, w64, to_z, of_z, rules, refl, sym, ap, subst, ◌∙◌, map, All, List, ℕ, sum_by}
 use Rattle.std.proofs.lemmas.Int.{to_z-of_z}
-use Rattle.pp_model.specs.declared.presentation.Sort.{Sort}
-use Rattle.pp_model.specs.declared.profile.Profile.{Profile}
+use Rattle.pp_model.specs.Words.{Sort, Profile}
 use Rattle.pp_graph.specs.declared.heavy.RankedRow.{RankedRow}
 use Rattle.pp_graph.specs.Ranks.{AreRanked, sum_of_name}
 use Rattle.pp_graph.specs.Trim.{shown_keys}

@@ -1,6 +1,5 @@
 use Rattle.std.proofs.Common.{arith, sym, ap, subst, ◌∙◌, ◌*◌, ◌≤◌, length, map, Ok}
-use Rattle.pp_model.specs.Rules.{NoRuleFails}
-use Rattle.pp_model.specs.Sizes.{HasAtMost}
+use Rattle.pp_model.specs.Words.{NoRuleFails, HasAtMost}
 use Rattle.pp_legacy.specs.Seen.{entry_of, entries_of, regions_of}
 use Rattle.pp_legacy.specs.Regions.{regions}
 use Rattle.pp_legacy.specs.Tables.{legacy_profile}

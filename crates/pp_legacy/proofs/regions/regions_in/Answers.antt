@@ -12,7 +12,7 @@ use Rattle.std.proofs.lemmas.List.Elements.{filter_map-append}
 use denote.Param.Members.{Mut}
 use Rattle.pp_legacy.specs.Regions.{code_in, regions}
 use Rattle.pp_legacy.proofs.regions.regions_in.Goals as goal
-use Rattle.pp_base.specs.Marks.{is_line_end}
+use Rattle.pp_base.specs.Words.{is_line_end}
 
 -- the parts of a slice that a loop has gone over
 parts_given :

@@ -1,7 +1,7 @@
 use Rattle.std.proofs.Common.{◌≡◌, map, take}
 use Rattle.std.specs.Prelude.{nat_eq}
 use Rattle.pp_legacy.specs.Words.{whole_words}
-use Rattle.pp_model.specs.FirstSight.{seen_after}
+use Rattle.pp_model.specs.Words.{seen_after}
 use Rattle.pp_legacy.specs.Tables.{location_id}
 use Rattle.pp_legacy.proofs.samples.location_ids.Given as goal
 

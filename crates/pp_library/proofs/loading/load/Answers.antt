@@ -1,8 +1,7 @@
 use Rattle.std.proofs.Common.{ap, ◌∙◌, Some, rules}
 use Rattle.std.specs.Prelude.{Err}
 use Rattle.std.proofs.lemmas.Result.{err_from_is_err_and}
-use Rattle.pp_base.specs.FileMap.{files_of}
-use Rattle.pp_base.specs.Held.{FilesHeld}
+use Rattle.pp_base.specs.Words.{files_of, FilesHeld}
 use Rattle.pp_library.proofs.AnswerLemmas.{load_wanted}
 use Rattle.pp_library.proofs.loading.load.Goals as goal
 

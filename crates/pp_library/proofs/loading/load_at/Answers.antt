@@ -1,6 +1,6 @@
 use Rattle.std.proofs.Common.{◌≡◌, []}
 use Rattle.pp_merge.specs.Merge.{merged}
-use Rattle.pp_model.specs.declared.loaded.Loaded.{Loaded}
+use Rattle.pp_model.specs.Words.{Loaded}
 use Rattle.pp_pattern.specs.Load.{load_verdicts}
 use Rattle.pp_library.proofs.AnswerLemmas.{answer_loaded}
 use Rattle.pp_library.proofs.OneFileLemmas.{went_loaded}

@@ -1,5 +1,5 @@
 use Rattle.std.proofs.Common.{◌∙◌, subst}
-use Rattle.pp_model.specs.Rules.{NoRuleFails}
+use Rattle.pp_model.specs.Words.{NoRuleFails}
 use Rattle.pp_library.proofs.MergeLemmas.{one_more_valid}
 use Rattle.pp_library.proofs.merging.all_valid.Goals as goal
 

@@ -2,7 +2,7 @@ use Rattle.std.proofs.Common.{◌^◌, length, arith, ap, sym, ◌∙◌}
 use Rattle.std.specs.List.{sum_by}
 use Rattle.std.proofs.lemmas.Bool.{le-ltb}
 use Rattle.std.proofs.lemmas.List.Sums.{sum_by_more_le}
-use Rattle.pp_model.specs.declared.profile.Profile.{Profile}
+use Rattle.pp_model.specs.Words.{Profile}
 use Rattle.pp_library.proofs.merging.have_few_samples.Goals as goal
 
 -- the samples of the next profile are more than is left

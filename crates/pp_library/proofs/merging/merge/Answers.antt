@@ -3,7 +3,7 @@ use Rattle.std.specs.Prelude.{Result, Err}
 use Rattle.std.proofs.lemmas.Result.{err_from_is_err_and}
 use Rattle.pp_library.specs.declared.countable.Countable.{Countable}
 use Rattle.pp_library.specs.declared.merge_error.MergeError.{MergeError}
-use Rattle.pp_desk.specs.Asked.{Asked}
+use Rattle.pp_desk.specs.Words.{Asked}
 use Rattle.pp_library.specs.Merged.{merge_all, merge_outcome}
 use Rattle.pp_library.proofs.MergeLemmas.{merge_goes, merge_refused}
 use Rattle.pp_library.proofs.merging.merge.Goals as goal

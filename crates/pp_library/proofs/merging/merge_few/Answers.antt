@@ -1,6 +1,6 @@
 use Rattle.std.proofs.Common.{subst}
 use Rattle.std.specs.List.{AllByRecursion}
-use Rattle.pp_model.specs.Rules.{NoRuleFails}
+use Rattle.pp_model.specs.Words.{NoRuleFails}
 use Rattle.pp_library.proofs.MergeLemmas.{few_are, merged_countable}
 use Rattle.pp_library.proofs.merging.merge_few.Goals as goal
 

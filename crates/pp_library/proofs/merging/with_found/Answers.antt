@@ -1,7 +1,7 @@
 use Rattle.std.proofs.Common.{◌≡◌, length, subst, sym, ap, refl}
 use Rattle.std.specs.Option.{ForSome}
 use Rattle.pp_model.proofs.LoadedLemmas.{same_loaded}
-use Rattle.pp_model.specs.Judged.{judged_fits}
+use Rattle.pp_model.specs.Words.{judged_fits}
 use Rattle.pp_pattern.specs.Load.{drop_finder, keep_finder}
 use Rattle.pp_library.proofs.merging.with_found.Goals as goal
 

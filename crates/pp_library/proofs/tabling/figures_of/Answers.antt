@@ -1,6 +1,6 @@
 use Rattle.std.proofs.Common.{subst, ◌∙◌}
 use Rattle.std.proofs.lemmas.Result.{IfOk-weaker}
-use Rattle.pp_model.specs.declared.loaded.Loaded.{Loaded}
+use Rattle.pp_model.specs.Words.{Loaded}
 use Rattle.pp_report.specs.Prepared.{showing}
 use Rattle.pp_library.specs.Figures.{HasEdgesOn}
 use Rattle.pp_library.proofs.FigureLemmas.{has_edges}

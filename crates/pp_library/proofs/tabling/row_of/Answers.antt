@@ -1,7 +1,7 @@
 use Rattle.std.proofs.Common.{ap, rules, w64, ◌∙◌}
 use Rattle.std.proofs.lemmas.Int.{to_z-of_z}
 use mir.Val.{SFits}
-use Rattle.pp_grain.specs.Naming.{name_text}
+use Rattle.pp_grain.specs.Words.{name_text}
 use Rattle.pp_graph.proofs.KeyRowLemmas.{name_written}
 use Rattle.pp_library.proofs.tabling.row_of.Goals as goal
 

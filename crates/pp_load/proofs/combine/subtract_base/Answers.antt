@@ -1,5 +1,5 @@
 use Rattle.std.proofs.Common.{◌∷◌, [], subst}
-use Rattle.pp_model.specs.Rules.{NoRuleFails}
+use Rattle.pp_model.specs.Words.{NoRuleFails}
 use Rattle.pp_merge.specs.Scale.{negated}
 use Rattle.pp_load.proofs.JoiningLemmas.{pair_agrees, pair_joins, merge_gives, merge_one, merge_halts}
 use Rattle.pp_load.proofs.combine.subtract_base.Goals as goal

@@ -1,7 +1,6 @@
 use Rattle.std.proofs.Common.{◌≡◌, [], subst, sym, ap, ◌∙◌}
 use Rattle.std.specs.Prelude.{IfOk}
-use Rattle.pp_model.specs.Rules.{NoRuleFails}
-use Rattle.pp_model.specs.Sizes.{IsCountable}
+use Rattle.pp_model.specs.Words.{NoRuleFails, IsCountable}
 use Rattle.pp_merge.specs.Merge.{merged}
 use Rattle.pp_tables.specs.Encode.{encode}
 use Rattle.pp_load.specs.Generator.{made, generated}

@@ -1,10 +1,8 @@
 use Rattle.std.proofs.Common.{◌≡◌, [], subst, sym}
 use Rattle.std.specs.Prelude.{Result, Ok, Err, IfOk}
-use Rattle.pp_desk.specs.declared.halt.Halt.{Halt}
+use Rattle.pp_desk.specs.Words.{Halt, Stop, settled}
 use Rattle.pp_desk.specs.declared.halt.Halt.TheVariants as halts
-use Rattle.pp_desk.specs.declared.stop.Stop.{Stop}
-use Rattle.pp_desk.specs.Asking.{settled}
-use Rattle.pp_model.specs.declared.loaded.Loaded.{Loaded}
+use Rattle.pp_model.specs.Words.{Loaded}
 use Rattle.pp_merge.specs.Merge.{merged}
 use Rattle.pp_pattern.specs.Load.{load_verdicts}
 use Rattle.pp_load.specs.declared.refusal.LoadRefusal.{LoadRefusal}

@@ -1,5 +1,5 @@
 use Rattle.std.proofs.Common.{◌≡◌, ◌+◌, drop, length}
-use Rattle.pp_desk.specs.Went.{IsOnWay}
+use Rattle.pp_desk.specs.Words.{IsOnWay}
 use Rattle.pp_load.specs.Load.{read_all, read_base}
 use Rattle.pp_load.specs.Sources.{IsCountableRead}
 use Rattle.pp_load.proofs.reading.read_bases.Given as goal

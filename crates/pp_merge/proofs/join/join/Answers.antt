@@ -3,7 +3,7 @@ use Rattle.std.specs.List.{AllByRecursion}
 use Rattle.std.proofs.lemmas.Iterator.Adapters.{YieldsList-from_vec}
 use Rattle.std.proofs.lemmas.Iterator.Consumers.{YieldsList-end}
 use Rattle.pp_base.proofs.Lists.{all_push}
-use Rattle.pp_model.specs.Rules.{NoRuleFails}
+use Rattle.pp_model.specs.Words.{NoRuleFails}
 use Rattle.pp_share.proofs.Prefix.{map_same}
 use Rattle.pp_merge.specs.Joined.{moved_behind, no_sizes, sizes_of, chained}
 use Rattle.pp_merge.proofs.JoinedAll.{join_from-append}

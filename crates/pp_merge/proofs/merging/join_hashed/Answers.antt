@@ -1,7 +1,7 @@
 use Rattle.std.proofs.Common.{w64, ap, subst, ◌∙◌}
 use Rattle.std.specs.Prelude.{IfSome}
 use Rattle.std.proofs.lemmas.Int.{to_z-of_z}
-use Rattle.pp_model.specs.declared.profile.Profile.{Profile}
+use Rattle.pp_model.specs.Words.{Profile}
 use Rattle.pp_merge.specs.Merging.{AreKnownAlone}
 use Rattle.pp_merge.proofs.MergeLemmas.{shareable, known_joined}
 use Rattle.pp_merge.proofs.merging.join_hashed.Goals as goal

@@ -1,7 +1,6 @@
 use Rattle.std.proofs.Common.{◌<◌, ◌^◌, length, sym, subst, ◌∙◌}
 use Rattle.std.specs.List.{AllByRecursion}
-use Rattle.pp_model.specs.declared.profile.Profile.{Profile}
-use Rattle.pp_model.specs.Rules.{NoRuleFails, IsCompact}
+use Rattle.pp_model.specs.Words.{Profile, NoRuleFails, IsCompact}
 use Rattle.pp_merge.proofs.MergeLemmas.{merged_valid, merged_compact, merges_merged}
 use Rattle.pp_merge.proofs.merging.merge.Goals as goal
 

@@ -1,8 +1,6 @@
 use Rattle.std.proofs.Common.{◌≡◌, ◌-◌, ◌^◌, ◌<◌, ◌≤◌, length, ap, ◌∙◌, sym, subst, arith}
 use Rattle.std.specs.List.{AllByRecursion}
-use Rattle.pp_model.specs.declared.profile.Profile.{Profile}
-use Rattle.pp_model.specs.Rules.{NoRuleFails}
-use Rattle.pp_model.specs.Sizes.{absolute_sum}
+use Rattle.pp_model.specs.Words.{Profile, NoRuleFails, absolute_sum}
 use Rattle.pp_merge.specs.Scale.{column_normalized}
 use Rattle.pp_merge.proofs.NormalizingLemmas.{front_normalized, as_many_columns, wide_samples, sum_kept, column_next, none_normalized, all_normalized}
 use Rattle.pp_merge.proofs.normalizing.normalize.Goals as goal

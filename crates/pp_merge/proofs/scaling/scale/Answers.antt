@@ -1,8 +1,7 @@
 use Rattle.std.proofs.Common.{◌≡◌, ◌-◌, ◌*◌, ◌/◌, ◌^◌, ◌<◌, ◌≤◌, length, w64, get_or, ap, ◌∙◌, sym, subst, arith}
 use Rattle.std.specs.Prelude.{nat_abs}
 use Rattle.std.proofs.lemmas.Int.{to_z-of_z}
-use Rattle.pp_model.specs.declared.profile.Profile.{Profile}
-use Rattle.pp_model.specs.Values.{with_value}
+use Rattle.pp_model.specs.Words.{Profile, with_value}
 use Rattle.pp_merge.specs.Scale.{scaled_value}
 use Rattle.pp_merge.proofs.ScalingLemmas.{scale_next, scale_fits}
 use Rattle.pp_merge.proofs.scaling.scale.Goals as goal

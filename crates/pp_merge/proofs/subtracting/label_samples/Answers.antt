@@ -1,5 +1,5 @@
 use Rattle.std.proofs.Common.{[], ◌∷◌, ◌∙◌, refl}
-use Rattle.pp_model.specs.declared.profile.Sample.{Sample}
+use Rattle.pp_model.specs.Words.{Sample}
 use Rattle.std.proofs.lemmas.List.{length-set}
 use Rattle.pp_merge.specs.Scale.{labelled_sample}
 use Rattle.pp_share.proofs.ChangeLemmas.{change_next}

@@ -1,5 +1,5 @@
 use Rattle.std.proofs.Common.{sym, subst}
-use Rattle.pp_model.specs.Rules.{NoRuleFails}
+use Rattle.pp_model.specs.Words.{NoRuleFails}
 use Rattle.pp_merge.proofs.NegatedLemmas.{negated_valid}
 use Rattle.pp_merge.proofs.subtracting.negate.Goals as goal
 

@@ -1,5 +1,5 @@
 use Rattle.std.proofs.Common.{◌≡◌, ◌+◌}
-use Rattle.pp_base.specs.Capped.{capped}
+use Rattle.pp_base.specs.Words.{capped}
 use Rattle.pp_merge.specs.Together.{sum_of_all}
 use Rattle.pp_merge.proofs.together.without_hashes.Given as goal
 

@@ -1,8 +1,7 @@
 use Rattle.std.proofs.Common.{◌+◌, ◌∙◌, ap}
 use Rattle.std.specs.Prelude.{nat_abs}
 use Rattle.std.specs.List.{sum_by}
-use Rattle.pp_model.specs.declared.profile.Profile.{Profile}
-use Rattle.pp_model.specs.Sizes.{value_in}
+use Rattle.pp_model.specs.Words.{Profile, value_in}
 use Rattle.pp_merge.specs.Merge.{if_small}
 use Rattle.pp_merge.proofs.totals.add_profile.Goals as goal
 

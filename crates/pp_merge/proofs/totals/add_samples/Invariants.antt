@@ -1,6 +1,6 @@
 use Rattle.std.proofs.Common.{◌≡◌, ◌+◌, ◌≤◌, ◌^◌, ◌-◌, nat_abs, drop}
 use Rattle.std.specs.List.{sum_by}
-use Rattle.pp_model.specs.Sizes.{value_in}
+use Rattle.pp_model.specs.Words.{value_in}
 use Rattle.pp_merge.proofs.totals.add_samples.Given as goal
 
 -- what is left adds up with the total to the whole

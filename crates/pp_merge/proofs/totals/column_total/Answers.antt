@@ -1,6 +1,5 @@
 use Rattle.std.proofs.Common.{◌≡◌, ◌+◌, ◌∷◌, get_or, sum_by, ◌∙◌, sym, ap, arith}
-use Rattle.pp_model.specs.declared.profile.Profile.{Profile}
-use Rattle.pp_model.specs.Sizes.{absolute_sum}
+use Rattle.pp_model.specs.Words.{Profile, absolute_sum}
 use Rattle.pp_merge.specs.Merge.{if_small}
 use Rattle.pp_merge.proofs.SmallLemmas.{too_large_with, fits_with}
 use Rattle.pp_merge.proofs.totals.column_total.Goals as goal

@@ -1,6 +1,6 @@
 use Rattle.std.proofs.Common.{◌≡◌, ◌+◌, ◌≤◌, ◌^◌, ◌-◌, ◌∷◌, drop}
 use Rattle.std.specs.List.{sum_by}
-use Rattle.pp_model.specs.Sizes.{absolute_sum}
+use Rattle.pp_model.specs.Words.{absolute_sum}
 use Rattle.pp_merge.proofs.totals.column_total.Given as goal
 
 -- what is left adds up with the total to the whole

@@ -1,5 +1,5 @@
 use Rattle.std.proofs.Common.{◌≡◌, [], drop, take, map}
-use Rattle.pp_desk.specs.Went.{IsOnWay}
+use Rattle.pp_desk.specs.Words.{IsOnWay}
 use Rattle.pp_pattern.specs.Patterns.{judge_parts, part_finder}
 use Rattle.pp_pattern.proofs.parts.judge_parts.Given as goal
 

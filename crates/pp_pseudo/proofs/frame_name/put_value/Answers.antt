@@ -1,6 +1,6 @@
 use Rattle.std.proofs.Common.{◌++◌, Bool, cond, sym, ap, ◌∙◌, append_assoc}
 use Rattle.std.specs.Fmt.{signed_decimal}
-use Rattle.pp_model.specs.Lookup.{text_of}
+use Rattle.pp_model.specs.Words.{text_of}
 use Rattle.pp_base.proofs.TextLemmas.{then_ok}
 use Rattle.pp_tags.specs.Labels.{label_value_text}
 use Rattle.pp_pseudo.proofs.frame_name.put_value.Goals as goal

@@ -1,8 +1,5 @@
 use Rattle.std.proofs.Common.{◌≡◌, List, map, refl, ap, subst, ◌∙◌}
-use Rattle.pp_model.specs.declared.frame.Frame.{Frame}
-use Rattle.pp_model.specs.declared.profile.Profile.{Profile}
-use Rattle.pp_model.specs.FrameTexts.{written}
-use Rattle.pp_model.specs.Rules.{NoRuleFails, IsCompact}
+use Rattle.pp_model.specs.Words.{Frame, Profile, written, NoRuleFails, IsCompact}
 use Rattle.pp_stack.specs.Filters.{load_pruned}
 use Rattle.pp_stack.specs.LoadFinders.{load_finders}
 use Rattle.pp_stack.proofs.LoadFinderLemmas.{same_judged}

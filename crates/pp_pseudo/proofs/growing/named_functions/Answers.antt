@@ -1,5 +1,5 @@
 use Rattle.std.proofs.Common.{◌∙◌, ap, ◌++◌, ◌∷◌, []}
-use Rattle.pp_model.specs.declared.profile.Function.{Function}
+use Rattle.pp_model.specs.Words.{Function}
 use Rattle.pp_pseudo.proofs.GrownLemmas.{functions_more}
 use Rattle.pp_pseudo.proofs.growing.named_functions.Goals as goal
 

@@ -1,6 +1,6 @@
 use Rattle.std.proofs.Common.{ap, ◌∙◌}
 use Rattle.std.proofs.result.Match.{if_ok_then}
-use Rattle.pp_model.specs.declared.profile.Profile.{Profile}
+use Rattle.pp_model.specs.Words.{Profile}
 use Rattle.pp_pseudo.specs.Grown.{grown}
 use Rattle.pp_pseudo.proofs.tagging.grown_with.Goals as goal
 

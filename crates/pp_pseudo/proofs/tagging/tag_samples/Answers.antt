@@ -1,9 +1,6 @@
 use Rattle.std.proofs.Common.{◌≡◌, ◌+◌, ◌++◌, ◌∷◌, [], List, ℕ, length, take, get_or, arith, sym, ap, subst, ◌∙◌}
 use Rattle.std.proofs.lemmas.List.{take_more}
-use Rattle.pp_model.specs.declared.profile.Profile.{Profile}
-use Rattle.pp_model.specs.declared.profile.Sample.{Sample}
-use Rattle.pp_model.specs.Conditions.{IsSampleOf}
-use Rattle.pp_model.specs.Rules.{NoRuleFails, IsCompact}
+use Rattle.pp_model.specs.Words.{Profile, Sample, IsSampleOf, NoRuleFails, IsCompact}
 use Rattle.pp_model.proofs.RuleLemmas.{item_refers}
 use Rattle.pp_pseudo.specs.Framed.{placing, AreTagged}
 use Rattle.pp_pseudo.proofs.AddingFrames.{tagged_more}

@@ -1,8 +1,5 @@
 use Rattle.std.proofs.Common.{[], List, ℕ, sym, ap, subst, ◌∙◌}
-use Rattle.pp_model.specs.declared.profile.Location.{Location}
-use Rattle.pp_model.specs.declared.profile.Profile.{Profile}
-use Rattle.pp_model.specs.declared.profile.Sample.{Sample}
-use Rattle.pp_model.specs.Rules.{NoRuleFails, IsCompact}
+use Rattle.pp_model.specs.Words.{Location, Profile, Sample, NoRuleFails, IsCompact}
 use Rattle.pp_pseudo.specs.Framed.{AreTagged, IsTagged}
 use Rattle.pp_pseudo.proofs.WithTagsLemmas.{tagged_none, tagged_valid, is_tagged}
 use Rattle.pp_pseudo.proofs.tagging.tagged_alone.Goals as goal

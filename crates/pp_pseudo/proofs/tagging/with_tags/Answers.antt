@@ -1,5 +1,5 @@
 use Rattle.std.proofs.Common.{◌++◌, List, ℕ, refl, sym, subst, ◌∙◌}
-use Rattle.pp_model.specs.Sizes.{IsCountable}
+use Rattle.pp_model.specs.Words.{IsCountable}
 use Rattle.pp_model.proofs.LoadedLemmas.{same_loaded}
 use Rattle.pp_pseudo.specs.Framed.{IsTagged}
 use Rattle.pp_pseudo.specs.TagSums.{KeepsTagSums}

@@ -1,10 +1,9 @@
 use Rattle.std.proofs.Common.{refl, subst}
 use Rattle.std.specs.Prelude.{Ok}
-use Rattle.pp_desk.specs.Script.{Give}
-use Rattle.pp_desk.specs.Went.{Went}
+use Rattle.pp_desk.specs.Words.{Give, Went}
 use Rattle.pp_desk.proofs.Going.{goes_give}
 use Rattle.pp_pattern.specs.Report.{judge}
-use Rattle.pp_model.specs.ReportFacts.{own_pattern}
+use Rattle.pp_model.specs.Words.{own_pattern}
 use Rattle.pp_report.specs.Patterns.{of_judged, ask_patterns}
 use Rattle.pp_report.proofs.asking.ask_patterns.Goals as goal
 

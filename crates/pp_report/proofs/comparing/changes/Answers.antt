@@ -1,5 +1,5 @@
 use Rattle.std.proofs.Common.{◌≡◌, ap, ◌∙◌}
-use Rattle.pp_model.specs.declared.profile.Profile.{Profile}
+use Rattle.pp_model.specs.Words.{Profile}
 use Rattle.pp_compare.specs.Changes.{changes_text}
 use Rattle.pp_report.specs.Heads.{unit_text}
 use Rattle.pp_report.proofs.FinishingLemmas.{made_text}

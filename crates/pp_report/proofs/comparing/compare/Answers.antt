@@ -1,5 +1,5 @@
 use Rattle.std.proofs.Common.{ap, ◌∙◌}
-use Rattle.pp_units.specs.Head.{facts}
+use Rattle.pp_units.specs.Words.{facts}
 use Rattle.pp_compare.specs.Compare.{compare_text}
 use Rattle.pp_report.proofs.FinishingLemmas.{made_text}
 use Rattle.pp_report.proofs.comparing.compare.Goals as goal

@@ -2,9 +2,8 @@ use Rattle.std.proofs.Common.{◌≡◌, ◌∙◌, ap, subst}
 use Rattle.std.proofs.lemmas.Result.{err_from_is_err_and}
 use Rattle.std.specs.Prelude.{option_map}
 use Rattle.pp_desk.proofs.Going.{wants}
-use Rattle.pp_desk.specs.Went.{Went}
-use Rattle.pp_units.specs.Head.{Facts, facts}
-use Rattle.pp_units.specs.Shown.{shown}
+use Rattle.pp_desk.specs.Words.{Went}
+use Rattle.pp_units.specs.Words.{Facts, facts, shown}
 use Rattle.pp_report.specs.Heads.{head_of, report_head}
 use Rattle.pp_report.specs.Reports.{text_by}
 use Rattle.pp_report.proofs.finishing.finish_by.Goals as goal

@@ -1,8 +1,8 @@
 use Rattle.std.proofs.Common.{ℕ, List, subst}
 use Rattle.std.specs.Prelude.{Ok, Result}
 use Rattle.std.proofs.lemmas.Result.{err_from_is_err_and}
-use Rattle.pp_desk.specs.Went.{Went}
-use Rattle.pp_units.specs.Head.{facts}
+use Rattle.pp_desk.specs.Words.{Went}
+use Rattle.pp_units.specs.Words.{facts}
 use Rattle.pp_source.specs.Listing.{list_report}
 use Rattle.pp_report.specs.declared.refusal.ReportRefusal.{ReportRefusal}
 use Rattle.pp_report.specs.Reports.{list_text}

@@ -1,4 +1,4 @@
-use Rattle.pp_units.specs.Head.{facts}
+use Rattle.pp_units.specs.Words.{facts}
 use Rattle.pp_report.proofs.FinishingLemmas.{finish_proto}
 use Rattle.pp_report.proofs.finishing.text_by.Goals as goal
 

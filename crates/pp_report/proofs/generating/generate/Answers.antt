@@ -2,7 +2,7 @@ use Rattle.std.proofs.Common.{◌++◌, ap, ◌∙◌, subst}
 use Rattle.std.specs.Prelude.{Ok, Result}
 use Rattle.std.proofs.lemmas.Result.{err_from_is_err_and, IfOk-at_ok}
 use Rattle.pp_base.proofs.TextLemmas.{on_err}
-use Rattle.pp_desk.specs.Went.{Went}
+use Rattle.pp_desk.specs.Words.{Went}
 use Rattle.pp_report.specs.declared.refusal.ReportRefusal.{ReportRefusal}
 use Rattle.pp_report.specs.Prepared.{Settled, prepare, answered, settled_by, showing}
 use Rattle.pp_report.specs.Reports.{finish}

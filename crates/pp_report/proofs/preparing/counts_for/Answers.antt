@@ -1,6 +1,6 @@
 use Rattle.std.proofs.Common.{subst}
 use Rattle.std.proofs.lemmas.Result.{err_from_is_err_and, IfOk-at_ok}
-use Rattle.pp_model.specs.Rules.{IsCompact}
+use Rattle.pp_model.specs.Words.{IsCompact}
 use Rattle.pp_report.specs.Prepared.{showing}
 use Rattle.pp_report.proofs.PreparingLemmas.{counts_stop, counts_refused, counts_want, counts_all, all_counted}
 use Rattle.pp_report.proofs.preparing.counts_for.Goals as goal

@@ -3,9 +3,7 @@ use Rattle.std.specs.Prelude.{Err}
 use Rattle.std.specs.Result.{result_map_both}
 use Rattle.std.proofs.lemmas.Result.{err_from_is_err_and, IfOk-at_ok}
 use Rattle.pp_desk.proofs.Going.{wants}
-use Rattle.pp_model.specs.declared.loaded.Loaded.{Loaded}
-use Rattle.pp_model.specs.Conditions.{IsColumnOf}
-use Rattle.pp_model.specs.ReportFacts.{is_counted}
+use Rattle.pp_model.specs.Words.{Loaded, IsColumnOf, is_counted}
 use Rattle.pp_report.specs.declared.refusal.ReportRefusal.{ReportRefusal}
 use Rattle.pp_report.specs.Prepared.{showing}
 use Rattle.pp_report.specs.Tagged.{basis_of}

@@ -1,5 +1,5 @@
 use Rattle.std.proofs.Common.{subst}
-use Rattle.pp_model.specs.Rules.{NoRuleFails}
+use Rattle.pp_model.specs.Words.{NoRuleFails}
 use Rattle.pp_report.proofs.ProtoLemmas.{proto_of}
 use Rattle.pp_report.proofs.texts.proto.Goals as goal
 

@@ -1,5 +1,5 @@
 use Rattle.std.proofs.Common.{ap, ◌∙◌}
-use Rattle.pp_units.specs.Head.{facts}
+use Rattle.pp_units.specs.Words.{facts}
 use Rattle.pp_top.specs.Top.{top_text}
 use Rattle.pp_graph.proofs.Showing.{can_show}
 use Rattle.pp_report.proofs.FinishingLemmas.{made_text}

@@ -1,7 +1,6 @@
 use Rattle.std.proofs.Common.{◌≡◌, true, sym, subst, ◌∙◌, get_or}
 use Rattle.std.specs.Result.{IfOk}
-use Rattle.pp_model.specs.declared.profile.Location.{Location}
-use Rattle.pp_model.specs.Rules.{location_refers}
+use Rattle.pp_model.specs.Words.{Location, location_refers}
 use Rattle.pp_restack.specs.Places.{with_lines, IsEntry}
 use Rattle.pp_base.proofs.TextLemmas.{then_ok}
 use Rattle.pp_restack.proofs.PlacesLemmas.{no_frame, location_read, group_refers, cut_is}

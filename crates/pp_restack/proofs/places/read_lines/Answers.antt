@@ -2,7 +2,7 @@ use Rattle.std.proofs.Common.{◌++◌, [], ◌∷◌, List, ap, sym, ◌∙◌,
 use Rattle.std.specs.Prelude.{Option}
 use Rattle.std.specs.List.{cons_option}
 use Rattle.std.proofs.lemmas.List.{append-nil}
-use Rattle.pp_model.specs.declared.profile.Line.{Line}
+use Rattle.pp_model.specs.Words.{Line}
 use Rattle.pp_restack.specs.Stacks.{lines_of_frames}
 use Rattle.pp_restack.proofs.PlacesLemmas.{lines_more, no_frame}
 use Rattle.pp_restack.proofs.places.read_lines.Goals.{in-Some+in_ok-push, in_default}

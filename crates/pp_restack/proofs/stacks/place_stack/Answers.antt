@@ -1,5 +1,5 @@
 use Rattle.std.proofs.Common.{List, subst}
-use Rattle.pp_model.specs.declared.frame.Frame.{Frame}
+use Rattle.pp_model.specs.Words.{Frame}
 use Rattle.pp_restack.specs.Stacks.{cut_location}
 use Rattle.pp_restack.specs.Places.{IsEntry}
 use Rattle.pp_restack.proofs.Placing.{placed_more}

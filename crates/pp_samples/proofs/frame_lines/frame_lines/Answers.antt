@@ -1,6 +1,6 @@
 use Rattle.std.proofs.Common.{[], ◌∷◌, length, sym, ap, arith, length-append}
 use Rattle.std.proofs.lemmas.Option.{get_or_from_slice_get}
-use Rattle.pp_grain.specs.Keys.{key_written}
+use Rattle.pp_grain.specs.Words.{key_written}
 use Rattle.pp_count.specs.Table.{no_key}
 use Rattle.pp_samples.specs.Traces.{frame_line}
 use Rattle.pp_samples.proofs.FrameLineLemmas.{line_added}

@@ -1,7 +1,6 @@
 use Rattle.std.proofs.Common.{◌≡◌, ◌++◌, List, ℕ, Result, Ok, Err, codes, sym, subst, append_assoc, OnOk, IfOk}
 use Rattle.pp_base.proofs.TextLemmas.{and_two}
-use Rattle.pp_grain.specs.Keys.{key_written}
-use Rattle.pp_grain.specs.Naming.{name_text}
+use Rattle.pp_grain.specs.Words.{key_written, name_text}
 use Rattle.pp_samples.specs.Traces.{frame_line}
 use Rattle.pp_samples.proofs.frame_lines.put_line.Goals as goal
 

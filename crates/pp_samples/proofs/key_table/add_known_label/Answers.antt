@@ -1,7 +1,7 @@
 use Rattle.std.proofs.Common.{◌<◌, length, map, refl, ap, sym, subst, ◌∙◌, arith, rules, w64, FitsSigned}
 use Rattle.std.proofs.lemmas.Int.{to_z-of_z}
 use Rattle.std.proofs.lemmas.List.{get_or_default}
-use Rattle.pp_model.specs.FirstSight.{place_of}
+use Rattle.pp_model.specs.Words.{place_of}
 use Rattle.pp_samples.specs.declared.tag_table.TagTable.{TagTable}
 use Rattle.pp_samples.specs.TagLines.{same_tag}
 use Rattle.pp_samples.specs.Tables.{IsTableOf, key_event, has}

@@ -2,7 +2,7 @@ use Rattle.std.proofs.Common.{◌≡◌, length, get_or, map, refl, ap, sym, sub
 use Rattle.std.proofs.lemmas.Int.{to_z-of_z}
 use Rattle.std.proofs.lemmas.List.{length-set}
 use Rattle.std.proofs.lemmas.List.Elements.{All-set}
-use Rattle.pp_model.specs.FirstSight.{seen_with, place_of}
+use Rattle.pp_model.specs.Words.{seen_with, place_of}
 use Rattle.pp_samples.specs.TagLines.{TagTexts, same_tag}
 use Rattle.pp_samples.specs.Names.{name_texts, key_tag}
 use Rattle.pp_samples.specs.Tables.{key_event}

@@ -1,7 +1,7 @@
 use Rattle.std.proofs.Common.{List, ℤ, ◌++◌, map, take, sym, subst, arith, rules, w64, to_z, of_z, FitsSigned}
 use Rattle.std.proofs.lemmas.Int.{to_z-of_z}
 use Rattle.std.proofs.lemmas.List.{append-nil, take_all}
-use Rattle.pp_model.specs.declared.profile.Label.{Label}
+use Rattle.pp_model.specs.Words.{Label}
 use Rattle.pp_samples.specs.Tables.{Event, AreKeys, AreSmall, label_event}
 use Rattle.pp_samples.proofs.CountLemmas.{labels_more}
 use Rattle.pp_samples.proofs.SmallLemmas.{small_before}

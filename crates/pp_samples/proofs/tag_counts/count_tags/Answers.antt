@@ -1,7 +1,7 @@
 use Rattle.std.proofs.Common.{◌+◌, List, ℕ, [], ◌∷◌, ◌++◌, Option, map, length, take, ap, refl, sym, subst, ◌∙◌, arith}
 use Rattle.std.specs.List.{cons_option}
 use Rattle.std.proofs.lemmas.List.{append-nil, length-append, take_all}
-use Rattle.pp_model.specs.declared.profile.Sample.{Sample}
+use Rattle.pp_model.specs.Words.{Sample}
 use Rattle.pp_count.specs.Counts.{samples_at}
 use Rattle.pp_samples.specs.Surveyed.{survey_profile}
 use Rattle.pp_samples.specs.Tables.{Event, AreKeys, AreSmall, events_from, sample_events}

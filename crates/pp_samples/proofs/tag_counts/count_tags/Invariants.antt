@@ -1,5 +1,5 @@
 use Rattle.std.proofs.Common.{◌≡◌, ◌≤◌, length, map, take}
-use Rattle.pp_model.specs.Finders.{Finders}
+use Rattle.pp_model.specs.Words.{Finders}
 use Rattle.pp_count.specs.Counts.{samples_at}
 use Rattle.pp_samples.specs.Surveyed.{survey_profile, FindsInSurvey}
 use Rattle.pp_samples.specs.Tables.{AreKeys, AreSmall, events_from}

@@ -2,7 +2,7 @@ use Rattle.std.proofs.Common.{◌++◌, List, ap, sym, subst, ◌∙◌, arith}
 use Rattle.std.specs.List.{flat_map}
 use Rattle.std.proofs.lemmas.List.{take_all}
 use Rattle.std.proofs.lemmas.List.Elements.{All-get_or}
-use Rattle.pp_units.specs.Shown.{shown}
+use Rattle.pp_units.specs.Words.{shown}
 use Rattle.pp_samples.specs.declared.tag_lines.TagLine.{TagLine}
 use Rattle.pp_samples.specs.TagLines.{key_lines}
 use Rattle.pp_samples.specs.Ranked.{IsKeyLine, line_key}

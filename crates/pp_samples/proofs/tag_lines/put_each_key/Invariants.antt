@@ -1,6 +1,6 @@
 use Rattle.std.proofs.Common.{◌≡◌, ◌++◌, List, All, take}
 use Rattle.std.specs.List.{flat_map}
-use Rattle.pp_units.specs.Shown.{shown}
+use Rattle.pp_units.specs.Words.{shown}
 use Rattle.pp_count.specs.Sums.{Seen}
 use Rattle.pp_samples.specs.TagLines.{TagTexts, key_lines}
 use Rattle.pp_samples.specs.Ranked.{IsKeyLine, line_key}

@@ -4,7 +4,7 @@ use Rattle.std.specs.Ordering.{is_lt}
 use Rattle.std.specs.Result.{IfOk}
 use Rattle.std.proofs.lemmas.Fn.{always_returns_same}
 use Rattle.std.proofs.lemmas.List.Sorted.{ranks_by}
-use Rattle.pp_units.specs.Shown.{shown}
+use Rattle.pp_units.specs.Words.{shown}
 use Rattle.pp_samples.specs.TagLines.{key_line, key_size}
 use Rattle.pp_samples.specs.Tables.{IsTableOf, events_of_key, events_from}
 use Rattle.pp_samples.specs.Ranked.{line_entry, line_key, entry_cmp, entry_line}

@@ -6,7 +6,7 @@ use Rattle.std.proofs.lemmas.Cmp.{nat_list_cmp_total}
 use Rattle.std.proofs.lemmas.Fn.{always_returns_same}
 use Rattle.std.proofs.lemmas.List.Sorted.{ranks_by, All-permutation}
 use Rattle.std.proofs.lemmas.List.Folds.{flat_map-map}
-use Rattle.pp_units.specs.Shown.{shown}
+use Rattle.pp_units.specs.Words.{shown}
 use Rattle.pp_samples.specs.TagLines.{key_lines}
 use Rattle.pp_samples.specs.Tables.{key_event, events_from}
 use Rattle.pp_samples.specs.declared.tag_table.TagTable.{TagTable}

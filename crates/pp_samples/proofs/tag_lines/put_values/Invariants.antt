@@ -1,6 +1,6 @@
 use Rattle.std.proofs.Common.{◌≡◌, ◌++◌, take}
 use Rattle.std.specs.List.{flat_map}
-use Rattle.pp_units.specs.Shown.{shown}
+use Rattle.pp_units.specs.Words.{shown}
 use Rattle.pp_samples.specs.Ranked.{line_entry, entry_line}
 use Rattle.pp_samples.proofs.tag_lines.put_values.Given as goal
 

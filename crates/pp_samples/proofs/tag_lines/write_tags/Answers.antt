@@ -2,7 +2,7 @@ use Rattle.std.proofs.Common.{◌≡◌, ◌++◌, ◌<◌, ◌^◌, nat_abs, Li
 use Rattle.std.specs.List.{flat_map}
 use Rattle.std.specs.Result.{OnOk}
 use Rattle.pp_base.proofs.Sums.{sum_by-map}
-use Rattle.pp_units.specs.Shown.{shown}
+use Rattle.pp_units.specs.Words.{shown}
 use Rattle.pp_count.specs.Counts.{samples_at}
 use Rattle.pp_count.specs.Sums.{Seen}
 use Rattle.pp_count.specs.Seeing.{filtered_from, absolute_all}

@@ -1,6 +1,6 @@
 use Rattle.std.proofs.Common.{◌≡◌, ap, sym, subst, ◌∙◌, rules, w64, FitsSigned}
 use Rattle.std.proofs.lemmas.Int.{to_z-of_z}
-use Rattle.pp_model.specs.FirstSight.{seen_with, place_of}
+use Rattle.pp_model.specs.Words.{seen_with, place_of}
 use Rattle.pp_samples.specs.declared.tag_table.TagSum.{TagSum}
 use Rattle.pp_samples.specs.TagLines.{same_tag}
 use Rattle.pp_samples.specs.Names.{name_texts}

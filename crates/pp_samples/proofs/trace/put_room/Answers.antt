@@ -1,6 +1,6 @@
 use Rattle.std.proofs.Common.{◌≡◌, ◌++◌, [], ℕ, List, map, ap, subst, ◌∙◌, IfOk}
 use Rattle.std.specs.List.{flat_map}
-use Rattle.pp_model.specs.FrameTexts.{Written}
+use Rattle.pp_model.specs.Words.{Written}
 use Rattle.pp_base.proofs.TextLemmas.{then_more, and_two}
 use Rattle.pp_samples.specs.Traces.{trace_separator, trace_text, frame_line}
 use Rattle.pp_samples.specs.Tracing.{trace_key}

@@ -2,7 +2,7 @@ use Rattle.pp_count.specs.Scope.{config_of}
 use Rattle.std.proofs.Common.{◌≡◌, ◌++◌, ℕ, Bool, true, false, List, map, ap, sym, subst, ◌∙◌, IfOk}
 use Rattle.std.proofs.lemmas.List.{append-nil}
 use Rattle.pp_stack.specs.Runs.{kept_if}
-use Rattle.pp_units.specs.Shown.{shown}
+use Rattle.pp_units.specs.Words.{shown}
 use Rattle.pp_samples.specs.Traces.{trace_text}
 use Rattle.pp_samples.specs.Tracing.{trace_profile, trace_key}
 use Rattle.pp_samples.proofs.TraceLemmas.{trace_seen}

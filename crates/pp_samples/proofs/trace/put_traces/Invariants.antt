@@ -1,6 +1,6 @@
 use Rattle.std.proofs.Common.{◌≡◌, ◌++◌, take}
 use Rattle.std.specs.List.{flat_map}
-use Rattle.pp_model.specs.Finders.{Finders}
+use Rattle.pp_model.specs.Words.{Finders}
 use Rattle.pp_count.specs.Counts.{samples_at}
 use Rattle.pp_samples.specs.Tracing.{trace_profile, FindsInTraces, sample_trace}
 use Rattle.pp_samples.proofs.trace.put_traces.Given as goal

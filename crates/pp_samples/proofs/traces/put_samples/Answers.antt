@@ -1,6 +1,6 @@
 use Rattle.std.proofs.Common.{◌≡◌, ◌++◌, List, ℕ, length, ap, sym, subst, ◌∙◌, arith, IfOk}
 use Rattle.std.specs.List.{flat_map}
-use Rattle.pp_units.specs.Shown.{shown}
+use Rattle.pp_units.specs.Words.{shown}
 use Rattle.pp_count.specs.Counts.{samples_at}
 use Rattle.pp_count.proofs.Based.{chosen_few}
 use Rattle.pp_count.proofs.Rising.{rising_below, samples_length}

@@ -1,8 +1,7 @@
 use Rattle.std.proofs.Common.{◌≡◌, ◌++◌, List, ℕ, ap, subst, ◌∙◌}
 use Rattle.std.specs.List.{flat_map}
 use Rattle.std.specs.Result.{OnOk}
-use Rattle.pp_units.specs.Shown.{shown}
-use Rattle.pp_units.specs.Head.{head_text}
+use Rattle.pp_units.specs.Words.{shown, head_text}
 use Rattle.pp_samples.specs.Traces.{trace_separator, trace_of}
 use Rattle.pp_samples.proofs.traces.write_traces.Goals as goal
 

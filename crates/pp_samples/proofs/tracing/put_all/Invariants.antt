@@ -1,6 +1,6 @@
 use Rattle.std.proofs.Common.{◌≡◌, ◌++◌, ◌*◌, min, take}
 use Rattle.pp_steal.specs.declared.piece.TheConstants.{PIECE}
-use Rattle.pp_model.specs.Finders.{Finders}
+use Rattle.pp_model.specs.Words.{Finders}
 use Rattle.pp_samples.specs.declared.tracing.TheConstants.{WAVE}
 use Rattle.pp_samples.specs.Tracing.{FindsInTraces, traces_text_at}
 use Rattle.pp_samples.proofs.tracing.put_all.Given as goal

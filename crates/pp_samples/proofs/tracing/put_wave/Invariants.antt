@@ -1,5 +1,5 @@
 use Rattle.std.proofs.Common.{◌≡◌, ◌++◌}
-use Rattle.pp_model.specs.Finders.{Finders}
+use Rattle.pp_model.specs.Words.{Finders}
 use Rattle.pp_samples.specs.Tracing.{FindsInTraces, traces_text_at}
 use Rattle.pp_samples.proofs.Waves.{pieces_from}
 use Rattle.pp_samples.proofs.tracing.put_wave.Given as goal

@@ -1,7 +1,7 @@
 use Rattle.std.proofs.Common.{◌≡◌, ◌+◌, ◌++◌, ◌∷◌, [], take, not, arith, sym, ap, ◌∙◌, subst}
 use Rattle.std.specs.List.{list_any}
 use Rattle.std.proofs.lemmas.List.{take_more, take_all}
-use Rattle.pp_model.specs.FirstSight.{seen_with, place_of, ids}
+use Rattle.pp_model.specs.Words.{seen_with, place_of, ids}
 use Rattle.pp_model.proofs.FirstSightLemmas.{AreFirsts, firsts_step}
 use Rattle.pp_share.proofs.first_sight.keep_firsts.Goals as goal
 

@@ -1,5 +1,5 @@
 use Rattle.std.proofs.Common.{◌≡◌}
-use Rattle.pp_model.specs.FirstSight.{distinct, ids}
+use Rattle.pp_model.specs.Words.{distinct, ids}
 use Rattle.pp_share.proofs.first_sight.number_each.Given as goal
 
 abbrev pub invariant-loop-key : goal.invariant-loop-key

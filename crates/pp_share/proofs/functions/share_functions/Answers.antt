@@ -1,5 +1,5 @@
 use Rattle.std.proofs.Common.{◌≡◌, map, ap, ◌∙◌}
-use Rattle.pp_model.specs.FirstSight.{distinct, ids}
+use Rattle.pp_model.specs.Words.{distinct, ids}
 use Rattle.pp_share.specs.Renumbered.{renumbered_location}
 use Rattle.pp_share.specs.Shared.{by_functions, alike_functions, with_shared_functions}
 use Rattle.pp_share.proofs.functions.share_functions.Goals as goal

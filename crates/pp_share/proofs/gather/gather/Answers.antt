@@ -5,7 +5,7 @@ use Rattle.std.specs.Cmp.{nat_eq_equiv}
 use Rattle.std.proofs.lemmas.Bool.{eq-eqb, ne_eqb}
 use Rattle.std.proofs.lemmas.Grind.{flat_map-append}
 use Rattle.std.proofs.lemmas.List.{take_more, append-nil}
-use Rattle.pp_model.specs.Lookup.{place_read}
+use Rattle.pp_model.specs.Words.{place_read}
 use Rattle.pp_share.specs.Gathered.{entry_at, gathered}
 use Rattle.pp_share.proofs.Tables.{places_tell}
 use Rattle.pp_share.proofs.gather.gather.Goals as goal

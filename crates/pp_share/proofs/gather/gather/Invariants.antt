@@ -1,5 +1,5 @@
 use Rattle.std.proofs.Common.{◌≡◌, ◌≢◌, ℕ, ◌<◌, take, get_or}
-use Rattle.pp_model.specs.Lookup.{place_read}
+use Rattle.pp_model.specs.Words.{place_read}
 use Rattle.pp_share.specs.Gathered.{gathered}
 use Rattle.pp_share.proofs.gather.gather.Given as goal
 

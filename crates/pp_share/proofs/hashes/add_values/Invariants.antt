@@ -1,7 +1,7 @@
 use Rattle.std.proofs.Common.{◌≡◌, ◌+◌, take}
 use Rattle.std.specs.Prelude.{nat_abs}
 use Rattle.std.specs.List.{sum_by}
-use Rattle.pp_base.specs.Capped.{capped}
+use Rattle.pp_base.specs.Words.{capped}
 use Rattle.pp_share.proofs.hashes.add_values.Given as goal
 
 -- the total with the values so far

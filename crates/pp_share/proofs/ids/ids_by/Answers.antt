@@ -1,5 +1,5 @@
 use Rattle.std.proofs.Common.{length, sym, ap, subst, arith}
-use Rattle.pp_model.specs.Rules.{AreNumbered}
+use Rattle.pp_model.specs.Words.{AreNumbered}
 use Rattle.pp_share.proofs.KeptIds.{id_stays, text_stays}
 use Rattle.pp_share.proofs.ids.ids_by.Goals as goal
 

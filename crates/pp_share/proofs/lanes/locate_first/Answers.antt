@@ -1,7 +1,7 @@
 use Rattle.std.proofs.Common.{◌≡◌, ◌<◌, ℕ, List, [], ◌∷◌, length, map, take, ap, ◌∙◌, arith}
 use Rattle.std.specs.List.{flat_map}
 use Rattle.std.proofs.lemmas.List.{length-set}
-use Rattle.pp_model.specs.declared.profile.Sample.{Sample}
+use Rattle.pp_model.specs.Words.{Sample}
 use Rattle.pp_share.specs.Ids.{place_id}
 use Rattle.pp_share.specs.Located.{with_placed_locations}
 use Rattle.pp_share.specs.Renumbered.{new_ids, renumbered_sample}

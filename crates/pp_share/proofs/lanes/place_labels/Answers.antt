@@ -1,8 +1,7 @@
 use Rattle.std.proofs.Common.{◌<◌, List, length, map, sym, ap, ◌∙◌, arith}
 use Rattle.std.specs.List.{flat_map}
 use Rattle.std.proofs.lemmas.List.{length-set, take_all}
-use Rattle.pp_model.specs.declared.profile.Label.{Label}
-use Rattle.pp_model.specs.declared.profile.Sample.{Sample}
+use Rattle.pp_model.specs.Words.{Label, Sample}
 use Rattle.pp_share.specs.Located.{with_placed_labels}
 use Rattle.pp_share.specs.Renumbered.{new_ids, renumbered_sample}
 use Rattle.pp_share.specs.Walk.{met_after, label_text_ids, sample_text_ids}

@@ -1,9 +1,7 @@
 use Rattle.std.proofs.Common.{◌≡◌, [], length, map, sym, ap, subst, ◌∙◌}
 use Rattle.std.specs.List.{AllByRecursion, flat_map}
 use Rattle.std.proofs.lemmas.Simd.{map-map}
-use Rattle.pp_model.specs.declared.profile.Profile.{Profile}
-use Rattle.pp_model.specs.declared.profile.Sample.{Sample}
-use Rattle.pp_model.specs.Values.{no_sample}
+use Rattle.pp_model.specs.Words.{Profile, Sample, no_sample}
 use Rattle.pp_share.specs.Located.{with_placed_labels, with_placed_locations}
 use Rattle.pp_share.specs.Renumbered.{new_ids, renumbered_sample}
 use Rattle.pp_share.specs.Share.{NamesLocations}

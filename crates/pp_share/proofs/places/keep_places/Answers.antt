@@ -1,8 +1,7 @@
 use Rattle.std.proofs.Common.{◌≡◌, map, length, ap, ◌∙◌, arith}
 use Rattle.std.proofs.lemmas.List.{length-map}
 use Rattle.pp_share.specs.declared.ids.Ids.TheVariants.{By}
-use Rattle.pp_model.specs.Conditions.{no_location}
-use Rattle.pp_model.specs.FirstSight.{distinct, ids}
+use Rattle.pp_model.specs.Words.{no_location, distinct, ids}
 use Rattle.pp_share.specs.Ids.{listed_id}
 use Rattle.pp_share.specs.PlaceKeys.{distant, near, same_place, place_of_key}
 use Rattle.pp_share.specs.Shared.{alike_mappings, distant_locations, with_shared_places}

@@ -1,8 +1,7 @@
 use Rattle.std.proofs.Common.{◌≡◌, ◌∙◌, ℕ, List, get_or, length, sym, ap, subst, arith}
 use Rattle.std.specs.Ordering.{is_eq}
 use Rattle.std.proofs.lemmas.List.{get_or_default}
-use Rattle.pp_model.specs.declared.profile.Sample.{Sample}
-use Rattle.pp_model.specs.Values.{no_sample}
+use Rattle.pp_model.specs.Words.{Sample, no_sample}
 use Rattle.pp_share.specs.declared.repeats.Repeat.{Repeat}
 use Rattle.pp_share.specs.Renumbered.{new_ids}
 use Rattle.pp_share.specs.Repeats.{AreEqual, IsPair}

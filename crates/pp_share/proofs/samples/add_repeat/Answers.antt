@@ -1,7 +1,5 @@
 use Rattle.std.proofs.Common.{◌≡◌, List, ℤ, pos, nat_abs, get_or, length, map, sym, ap, ◌∙◌, arith}
-use Rattle.pp_model.specs.declared.profile.Sample.{Sample}
-use Rattle.pp_model.specs.Sizes.{value_in}
-use Rattle.pp_model.specs.Values.{no_sample}
+use Rattle.pp_model.specs.Words.{Sample, value_in, no_sample}
 use Rattle.pp_share.specs.Repeats.{with_row}
 use Rattle.pp_share.specs.Sums.{added}
 use Rattle.pp_share.proofs.SummingLemmas.{two_fit, other_wide, kept_first, taken_is}

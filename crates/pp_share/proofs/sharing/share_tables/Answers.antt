@@ -1,8 +1,7 @@
 use Rattle.std.proofs.Common.{length, ap, subst, ◌∙◌}
 use Rattle.std.specs.Str.{bytes_eq}
 use Rattle.std.proofs.lemmas.List.{length-map}
-use Rattle.pp_model.specs.declared.profile.Profile.{Profile}
-use Rattle.pp_model.specs.FirstSight.{ids}
+use Rattle.pp_model.specs.Words.{Profile, ids}
 use Rattle.pp_share.specs.declared.ids.Ids.TheVariants.{Same}
 use Rattle.pp_share.specs.Ids.{GivesIds}
 use Rattle.pp_share.specs.PlaceKeys.{same_place}

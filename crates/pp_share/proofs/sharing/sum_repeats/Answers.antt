@@ -1,6 +1,5 @@
 use Rattle.std.proofs.Common.{◌≡◌, List, filter, fold, length, map, ap, ◌∙◌}
-use Rattle.pp_model.specs.declared.profile.Profile.{Profile}
-use Rattle.pp_model.specs.declared.profile.Sample.{Sample}
+use Rattle.pp_model.specs.Words.{Profile, Sample}
 use Rattle.pp_share.specs.Renumbered.{renumbered_sample}
 use Rattle.pp_share.specs.Repeats.{with_repeat}
 use Rattle.pp_share.specs.SampleKeys.{has_values}

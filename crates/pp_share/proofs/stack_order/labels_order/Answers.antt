@@ -2,7 +2,7 @@ use Rattle.std.proofs.Common.{◌≡◌, ◌≤◌, ◌⊎◌, inl, inr, ⊎_eli
 use Rattle.std.proofs.lemmas.Bool.{cases_lt}
 use Rattle.std.proofs.lemmas.List.{get_or_default}
 use Rattle.std.specs.declared.cmp.Ordering.TheVariants.{Equal}
-use Rattle.pp_model.specs.declared.profile.Label.{Label}
+use Rattle.pp_model.specs.Words.{Label}
 use Rattle.pp_share.specs.Renumbered.{new_ids}
 use Rattle.pp_share.specs.StackOrder.{label_cmp}
 use Rattle.pp_share.proofs.StackOrderLemmas.{one_further, by_first, by_lengths}

@@ -2,7 +2,7 @@ use Rattle.std.proofs.Common.{◌≡◌, [], length, ap, subst, ◌∙◌}
 use Rattle.std.specs.Str.{bytes_eq}
 use Rattle.std.specs.Cmp.{nat_eq_equiv}
 use Rattle.std.specs.Cmp.Lexicographic.{lists_equiv}
-use Rattle.pp_model.specs.FirstSight.{distinct, ids}
+use Rattle.pp_model.specs.Words.{distinct, ids}
 use Rattle.pp_share.specs.Ids.{GivesTexts}
 use Rattle.pp_share.specs.Renumbered.{renumbered_tables}
 use Rattle.pp_share.specs.Shared.{by_texts}

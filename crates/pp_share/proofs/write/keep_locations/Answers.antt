@@ -1,6 +1,6 @@
 use Rattle.std.proofs.Common.{◌≡◌, [], map, ap, ◌∙◌}
 use Rattle.std.specs.List.{flat_map}
-use Rattle.pp_model.specs.declared.profile.Profile.{Profile}
+use Rattle.pp_model.specs.Words.{Profile}
 use Rattle.pp_share.specs.Hashes.{with_new_samples}
 use Rattle.pp_share.specs.Renumbered.{new_ids}
 use Rattle.pp_share.specs.Walk.{met_after, location_refs, sample_text_ids}

@@ -1,5 +1,5 @@
 use Rattle.std.proofs.Common.{[], drop, map}
-use Rattle.pp_desk.specs.Went.{IsOnWay}
+use Rattle.pp_desk.specs.Words.{IsOnWay}
 use Rattle.pp_source.specs.Listing.{read_sources}
 use Rattle.pp_source.proofs.files.read_sources.Given as goal
 

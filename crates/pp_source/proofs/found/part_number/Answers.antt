@@ -1,6 +1,6 @@
 use Rattle.std.proofs.Common.{◌∙◌, ap}
-use Rattle.pp_model.specs.FirstSight.{place_of}
-use Rattle.pp_grain.specs.Sight.{same_key}
+use Rattle.pp_model.specs.Words.{place_of}
+use Rattle.pp_grain.specs.Words.{same_key}
 use Rattle.pp_source.proofs.Parts.{none_placed}
 use Rattle.pp_source.proofs.found.part_number.Goals as goal
 

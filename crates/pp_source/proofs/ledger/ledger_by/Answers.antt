@@ -1,9 +1,7 @@
 use Rattle.std.proofs.Common.{◌≡◌, ◌<◌, List, [], length, map, refl, ap, ◌∙◌, subst}
 use Rattle.std.specs.Option.{option_map_or}
-use Rattle.pp_model.specs.declared.profile.Profile.{Profile}
-use Rattle.pp_model.specs.Lookup.{text_at}
-use Rattle.pp_model.specs.Rules.{IsCompact, NoRuleFails}
-use Rattle.pp_grain.specs.declared.key.Key.{Key}
+use Rattle.pp_model.specs.Words.{Profile, text_at, IsCompact, NoRuleFails}
+use Rattle.pp_grain.specs.Words.{Key}
 use Rattle.pp_count.specs.Counts.{samples_at}
 use Rattle.pp_count.specs.Scope.{config_of, samples_in_scope}
 use Rattle.pp_count.specs.Seeing.{seen_samples}

@@ -1,7 +1,6 @@
 use Rattle.std.proofs.Common.{ap, sym, subst, length, ◌∙◌}
 use Rattle.std.specs.Prelude.{IfOk}
-use Rattle.pp_model.specs.declared.grouping.Grouping.{Grouping}
-use Rattle.pp_model.specs.declared.profile.Profile.{Profile}
+use Rattle.pp_model.specs.Words.{Grouping, Profile}
 use Rattle.pp_count.specs.Counted.{report_frames}
 use Rattle.pp_count.specs.Rising.{AreRisingBetween}
 use Rattle.pp_count.proofs.Based.{chosen_few, chosen_fits}

@@ -1,7 +1,7 @@
 use Rattle.std.proofs.Common.{◌≡◌, List, length, ap, ◌∙◌, arith, rules}
 use Rattle.std.proofs.lemmas.Result.{err_from_is_err_and}
-use Rattle.pp_model.specs.FrameTexts.{Written}
-use Rattle.pp_units.specs.Head.{facts}
+use Rattle.pp_model.specs.Words.{Written}
+use Rattle.pp_units.specs.Words.{facts}
 use Rattle.pp_count.specs.Counted.{has_own_match, report_frames}
 use Rattle.pp_count.specs.Sums.{Seen}
 use Rattle.pp_desk.proofs.Going.{wants}

@@ -1,6 +1,6 @@
 use Rattle.std.proofs.Common.{map, ap, ◌∙◌}
 use Rattle.std.proofs.lemmas.Result.{IfOk-weaker}
-use Rattle.pp_units.specs.Head.{facts}
+use Rattle.pp_units.specs.Words.{facts}
 use Rattle.pp_source.specs.Files.{source_at}
 use Rattle.pp_source.specs.Ledgers.{lines_texts}
 use Rattle.pp_source.specs.SourceText.{lines_text}

@@ -1,7 +1,7 @@
 use Rattle.std.proofs.Common.{Some, None, refl}
 use Rattle.std.specs.Prelude.{Ok}
 use Rattle.std.proofs.lemmas.Result.{err_from_is_err_and}
-use Rattle.pp_units.specs.Head.{facts}
+use Rattle.pp_units.specs.Words.{facts}
 use Rattle.pp_source.specs.Listing.{list_report}
 use Rattle.pp_source.proofs.ListLemmas.{added_stopped, given_added, given_wants}
 use Rattle.pp_source.proofs.listing.write_list.Goals as goal

@@ -1,5 +1,5 @@
 use Rattle.std.proofs.Common.{drop}
-use Rattle.pp_desk.specs.Went.{IsOnWay}
+use Rattle.pp_desk.specs.Words.{IsOnWay}
 use Rattle.pp_source.specs.Listing.{first_present}
 use Rattle.pp_source.proofs.looking.first_present.Given as goal
 

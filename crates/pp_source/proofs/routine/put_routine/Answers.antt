@@ -1,6 +1,6 @@
 use Rattle.std.proofs.Common.{FitsSigned, w64, rules}
 use Rattle.std.proofs.lemmas.Int.{to_z-of_z}
-use Rattle.pp_units.specs.Head.{facts}
+use Rattle.pp_units.specs.Words.{facts}
 use Rattle.pp_base.proofs.TextLemmas.{joined_two}
 use Rattle.pp_source.specs.SourceText.{both_text, part_text}
 use Rattle.pp_source.proofs.routine.put_routine.Goals as goal

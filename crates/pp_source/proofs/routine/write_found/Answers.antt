@@ -1,5 +1,5 @@
 use Rattle.std.proofs.Common.{◌≡◌, ◌++◌, Bor, refl, ap, subst, ◌∙◌, IfOk}
-use Rattle.pp_units.specs.Head.{facts}
+use Rattle.pp_units.specs.Words.{facts}
 use Rattle.pp_source.specs.declared.split.SplitSource.{SplitSource}
 use Rattle.pp_source.specs.Files.{source_in}
 use Rattle.pp_source.specs.Ledgers.{lines_texts}

@@ -1,7 +1,7 @@
 use Rattle.std.proofs.Common.{◌<◌, ◌++◌, length, ap, ◌∙◌, arith}
 use Rattle.std.proofs.lemmas.List.{get_or_default}
 use Rattle.pp_base.proofs.TextLemmas.{joined}
-use Rattle.pp_units.specs.Head.{facts}
+use Rattle.pp_units.specs.Words.{facts}
 use Rattle.pp_source.proofs.RowLemmas.{if_one, routine_is}
 use Rattle.pp_source.proofs.routine.write_routine.Goals as goal
 

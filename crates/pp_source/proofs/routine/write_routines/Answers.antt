@@ -1,5 +1,5 @@
 use Rattle.std.proofs.Common.{◌≡◌, ◌++◌, drop, ap, ◌∙◌, rules}
-use Rattle.pp_units.specs.Head.{facts}
+use Rattle.pp_units.specs.Words.{facts}
 use Rattle.pp_source.specs.Files.{source_in}
 use Rattle.pp_source.specs.Ledgers.{lines_texts}
 use Rattle.pp_source.specs.Routines.{is_same_routine}

@@ -1,5 +1,5 @@
 use Rattle.std.proofs.Common.{◌++◌, ap, ◌∙◌}
-use Rattle.pp_units.specs.Head.{facts}
+use Rattle.pp_units.specs.Words.{facts}
 use Rattle.pp_source.specs.Ledgers.{line_texts, lines_texts}
 use Rattle.pp_source.proofs.RowLemmas.{if_one, source_is}
 use Rattle.pp_source.proofs.routine.write_source.Goals as goal

@@ -1,6 +1,6 @@
 use Rattle.std.proofs.Common.{◌++◌, ap, ◌∙◌, subst}
-use Rattle.pp_units.specs.Head.{facts}
-use Rattle.pp_model.specs.Rules.{NoRuleFails}
+use Rattle.pp_units.specs.Words.{facts}
+use Rattle.pp_model.specs.Words.{NoRuleFails}
 use Rattle.pp_source.specs.Ledgers.{tally_of_key}
 use Rattle.pp_source.specs.Tally.{amounts_of_tally}
 use Rattle.pp_source.specs.SourceText.{routine_line}

@@ -1,7 +1,7 @@
 use Rattle.std.proofs.Common.{◌++◌, ap, ◌∙◌, subst, w64}
 use Rattle.std.proofs.lemmas.Int.{to_z_pos}
-use Rattle.pp_units.specs.Shown.{shown}
-use Rattle.pp_model.specs.Rules.{NoRuleFails}
+use Rattle.pp_units.specs.Words.{shown}
+use Rattle.pp_model.specs.Words.{NoRuleFails}
 use Rattle.pp_source.specs.Found.{key_at}
 use Rattle.pp_source.specs.Ledgers.{tally_of_key}
 use Rattle.pp_source.specs.SourceText.{row_text}

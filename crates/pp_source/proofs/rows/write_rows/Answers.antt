@@ -1,6 +1,6 @@
 use Rattle.std.proofs.Common.{◌<◌, ◌-◌, length, map, sym, arith}
 use Rattle.std.proofs.lemmas.List.{get_or_default, length-map}
-use Rattle.pp_units.specs.Head.{facts}
+use Rattle.pp_units.specs.Words.{facts}
 use Rattle.pp_source.specs.Ledgers.{line_texts}
 use Rattle.pp_source.proofs.FileLemmas.{told}
 use Rattle.pp_source.proofs.RowLemmas.{if_one, rows_are}

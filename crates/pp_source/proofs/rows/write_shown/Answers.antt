@@ -1,7 +1,7 @@
 use Rattle.std.proofs.Common.{map, ◌∙◌, arith}
 use Rattle.std.proofs.lemmas.Bool.{and_from, and_left, and_right, le-leb, le-ltb, lt-leb, lt-ltb}
 use Rattle.std.proofs.lemmas.List.{length-map}
-use Rattle.pp_units.specs.Head.{facts}
+use Rattle.pp_units.specs.Words.{facts}
 use Rattle.pp_source.specs.Ledgers.{line_texts}
 use Rattle.pp_source.proofs.FileLemmas.{told}
 use Rattle.pp_source.proofs.RowLemmas.{shown_all, shown_from, shown_more}

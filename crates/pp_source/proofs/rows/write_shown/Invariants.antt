@@ -1,6 +1,6 @@
 use Rattle.std.proofs.Common.{List, map}
-use Rattle.pp_model.specs.FrameTexts.{Written}
-use Rattle.pp_units.specs.Head.{facts}
+use Rattle.pp_model.specs.Words.{Written}
+use Rattle.pp_units.specs.Words.{facts}
 use Rattle.pp_count.specs.Sums.{Seen}
 use Rattle.pp_source.specs.Ledgers.{ListsOf, line_texts}
 use Rattle.pp_source.proofs.FileLemmas.{told}

@@ -1,6 +1,6 @@
 use Rattle.std.proofs.Common.{map, sym, ap, ◌∙◌}
 use Rattle.std.specs.Prelude.{option_map}
-use Rattle.pp_model.specs.FrameTexts.{written}
+use Rattle.pp_model.specs.Words.{written}
 use Rattle.pp_stack.specs.Filters.{kept_frames}
 use Rattle.pp_stack.proofs.StageLemmas.{filtered-map}
 use Rattle.pp_stack.proofs.filter.filter_frames.Goals as goal

@@ -1,5 +1,5 @@
 use Rattle.std.proofs.Common.{sym, ap, ◌∙◌}
-use Rattle.pp_model.specs.FrameTexts.{written}
+use Rattle.pp_model.specs.Words.{written}
 use Rattle.pp_stack.specs.Filters.{filtered}
 use Rattle.pp_stack.specs.Runs.{kept_if}
 use Rattle.pp_stack.proofs.filter.filter_stack.Goals as goal

@@ -3,7 +3,7 @@ use Rattle.std.proofs.lemmas.Grind.{common_steps}
 use Rattle.std.proofs.lemmas.List.{length-set, get_or_default}
 use Rattle.std.proofs.lemmas.List.Elements.{All-set}
 use Rattle.std.proofs.lemmas.List.Filters.{FiltersInPlace-more_no, FiltersInPlace-more_set}
-use Rattle.pp_model.specs.Conditions.{IsFrameOf}
+use Rattle.pp_model.specs.Words.{IsFrameOf}
 use Rattle.pp_stack.proofs.RunLemmas.{no_frame, as_wanted-is}
 use Rattle.pp_stack.proofs.retain.move_front.Goals as goal
 use Rattle.pp_stack.proofs.retain.move_front.Goals.{then-finds_frame-wanted, else-finds_frame-wanted}

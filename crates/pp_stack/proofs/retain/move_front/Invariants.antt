@@ -1,8 +1,6 @@
 use Rattle.std.proofs.Common.{◌≡◌, ◌≤◌, length}
 use Rattle.std.proofs.lemmas.List.Filters.{FiltersInPlace}
-use Rattle.pp_model.specs.Conditions.{IsStackOf}
-use Rattle.pp_model.specs.Finders.{Finder}
-use Rattle.pp_model.specs.FrameTexts.{written}
+use Rattle.pp_model.specs.Words.{IsStackOf, Finder, written}
 use Rattle.pp_stack.specs.Filters.{AreVerdicts, finds_frame}
 use Rattle.pp_stack.specs.Runs.{as_wanted}
 use Rattle.pp_stack.proofs.retain.move_front.Given as goal

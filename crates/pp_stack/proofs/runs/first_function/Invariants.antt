@@ -1,7 +1,5 @@
 use Rattle.std.proofs.Common.{◌≡◌, ℕ, ◌<◌, false, get_or}
-use Rattle.pp_model.specs.declared.frame.Frame.{Frame}
-use Rattle.pp_model.specs.Finders.{Finder}
-use Rattle.pp_model.specs.FrameTexts.{written}
+use Rattle.pp_model.specs.Words.{Frame, Finder, written}
 use Rattle.pp_stack.specs.Filters.{AreVerdicts, finds_function}
 use Rattle.pp_stack.proofs.runs.first_function.Given as goal
 

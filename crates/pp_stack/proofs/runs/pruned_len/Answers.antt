@@ -1,5 +1,5 @@
 use Rattle.std.proofs.Common.{ap, ◌∙◌}
-use Rattle.pp_model.specs.FrameTexts.{written}
+use Rattle.pp_model.specs.Words.{written}
 use Rattle.pp_stack.specs.Filters.{is_prunable}
 use Rattle.pp_stack.specs.Runs.{through_last}
 use Rattle.std.specs.Prelude.{take}

@@ -1,7 +1,5 @@
 use Rattle.std.proofs.Common.{◌≡◌, ℕ, ◌<◌, ◌≤◌, false, length, get_or}
-use Rattle.pp_model.specs.declared.frame.Frame.{Frame}
-use Rattle.pp_model.specs.Finders.{Finder}
-use Rattle.pp_model.specs.FrameTexts.{written}
+use Rattle.pp_model.specs.Words.{Frame, Finder, written}
 use Rattle.pp_stack.specs.Filters.{AreVerdicts, finds_frame}
 use Rattle.pp_stack.proofs.runs.through_last_found.Given as goal
 

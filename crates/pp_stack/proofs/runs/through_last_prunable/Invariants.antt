@@ -1,8 +1,5 @@
 use Rattle.std.proofs.Common.{◌≡◌, ℕ, ◌<◌, ◌≤◌, false, length, get_or}
-use Rattle.pp_model.specs.declared.frame.Frame.{Frame}
-use Rattle.pp_model.specs.Finders.{Finder, Finders}
-use Rattle.pp_model.specs.FrameTexts.{written}
-use Rattle.pp_model.specs.Judged.{judged}
+use Rattle.pp_model.specs.Words.{Frame, Finder, Finders, written, judged}
 use Rattle.pp_stack.specs.Runs.{as_wanted}
 use Rattle.pp_stack.specs.Filters.{AreVerdicts, is_prunable}
 use Rattle.pp_stack.proofs.runs.through_last_prunable.Given as goal

@@ -1,7 +1,6 @@
 use Rattle.std.proofs.Common.{◌≡◌, ◌||◌, length, sym, ap, ◌∙◌, arith}
 use Rattle.std.specs.List.{list_any}
-use Rattle.pp_model.specs.Frames.{lines_at}
-use Rattle.pp_model.specs.FrameTexts.{written}
+use Rattle.pp_model.specs.Words.{lines_at, written}
 use Rattle.pp_stack.specs.Filters.{finds_frame}
 use Rattle.pp_stack.proofs.UnfocusedLemmas.{row_asked, rows_long}
 use Rattle.pp_stack.proofs.samples.finds_line.Goals.{then-finds_by_texts, else-finds_by_texts}

@@ -1,8 +1,6 @@
 use Rattle.std.proofs.Common.{◌≡◌, map}
 use Rattle.std.specs.List.{list_any, range_with_len}
-use Rattle.pp_model.specs.Finders.{Finder}
-use Rattle.pp_model.specs.Frames.{row_frame}
-use Rattle.pp_model.specs.FrameTexts.{written}
+use Rattle.pp_model.specs.Words.{Finder, row_frame, written}
 use Rattle.pp_stack.specs.Filters.{AreVerdicts, finds_frame}
 use Rattle.pp_stack.proofs.samples.finds_line.Given as goal
 

@@ -1,10 +1,7 @@
 use Rattle.std.proofs.Common.{Bool, sym, ap, ◌∙◌, subst, refl}
 use Rattle.std.specs.List.{list_any}
 use Rattle.std.proofs.lemmas.List.{drop_all}
-use Rattle.pp_model.specs.Rules.{IsCompact}
-use Rattle.pp_model.specs.declared.frame.Frame.{Frame}
-use Rattle.pp_model.specs.Frames.{frames_from}
-use Rattle.pp_model.specs.FrameTexts.{written}
+use Rattle.pp_model.specs.Words.{IsCompact, Frame, frames_from, written}
 use Rattle.pp_model.proofs.FrameLemmas.{one_le_read, within_read}
 use Rattle.pp_stack.specs.Filters.{finds_frame}
 use Rattle.pp_stack.proofs.UnfocusedLemmas.{location_asked, found_here, found_later}

@@ -1,7 +1,5 @@
 use Rattle.std.proofs.Common.{subst, ◌∙◌, sym}
-use Rattle.pp_model.specs.Rules.{IsCompact}
-use Rattle.pp_model.specs.Frames.{stack_of}
-use Rattle.pp_model.specs.FrameTexts.{written}
+use Rattle.pp_model.specs.Words.{IsCompact, stack_of, written}
 use Rattle.pp_model.proofs.FrameLemmas.{frames_written}
 use Rattle.pp_stack.proofs.UnfocusedLemmas.{unfocused, unfocused_texts, not_true}
 use Rattle.pp_stack.proofs.samples.lacks_focus.Goals as goal

@@ -1,5 +1,5 @@
 use Rattle.std.proofs.Common.{ap, ◌∙◌}
-use Rattle.pp_model.specs.FrameTexts.{written}
+use Rattle.pp_model.specs.Words.{written}
 use Rattle.pp_stack.specs.Filters.{frames_shown}
 use Rattle.pp_stack.proofs.stages.cut_by.Goals as goal
 

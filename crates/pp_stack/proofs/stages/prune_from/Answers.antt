@@ -1,6 +1,6 @@
 use Rattle.std.proofs.Common.{◌≡◌, drop, sym, ◌∙◌, ap}
 use Rattle.std.specs.Option.{option_map_or}
-use Rattle.pp_model.specs.FrameTexts.{written}
+use Rattle.pp_model.specs.Words.{written}
 use Rattle.pp_stack.specs.Filters.{finds_function}
 use Rattle.pp_stack.specs.Runs.{from_first}
 use Rattle.pp_stack.proofs.ForceLemmas.{where_in_force}

@@ -1,7 +1,7 @@
 use Rattle.std.proofs.Common.{◌≡◌, sym, ◌∙◌}
 use Rattle.std.specs.Prelude.{nat_lt, Some, is_some, unwrap_or, []}
 use Rattle.std.specs.Option.{option_map_or}
-use Rattle.pp_model.specs.FrameTexts.{written}
+use Rattle.pp_model.specs.Words.{written}
 use Rattle.pp_stack.specs.Filters.{finds_frame}
 use Rattle.pp_stack.specs.Runs.{up_to_last}
 use Rattle.pp_stack.proofs.ForceLemmas.{where_in_force}

@@ -1,6 +1,5 @@
 use Rattle.std.proofs.Common.{◌≡◌, ◌+◌, ◌++◌, length, map, take}
-use Rattle.pp_model.specs.Finders.{Finder}
-use Rattle.pp_model.specs.FrameTexts.{written}
+use Rattle.pp_model.specs.Words.{Finder, written}
 use Rattle.pp_stack.specs.Filters.{AreVerdicts, finds_frame}
 use Rattle.pp_stack.proofs.table.add_frames.Given as goal
 

@@ -1,6 +1,6 @@
 use Rattle.std.proofs.Common.{◌≢◌, Bool, true, false, List, [], ◌∷◌, ℕ, if◌then◌else◌}
 use Rattle.std.specs.Prelude.{Option, Some, None, Err}
-use Rattle.pp_model.specs.declared.profile.Profile.{Profile}
+use Rattle.pp_model.specs.Words.{Profile}
 use Rattle.pp_wire.specs.declared.fault.WireFault.{WireFault}
 use Rattle.pp_tables.specs.declared.refusal.ReadRefusal.TheVariants as refusal
 use Rattle.pp_tables.specs.Read.{is_gzip, profile_unless, read, read_message}

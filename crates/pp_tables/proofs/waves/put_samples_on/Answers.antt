@@ -4,7 +4,7 @@ use Rattle.std.proofs.lemmas.Grind.{div_ceil_times, flat_map-append}
 use Rattle.std.proofs.Math.Seq.{take-add}
 use Rattle.std.proofs.lemmas.List.{append-nil, take_all}
 use Rattle.pp_base.proofs.Lists.{all_append}
-use Rattle.pp_model.specs.declared.profile.Sample.{Sample}
+use Rattle.pp_model.specs.Words.{Sample}
 use Rattle.pp_wire.specs.Spelling.{bytes_field}
 use Rattle.pp_tables.specs.declared.waves.TheConstants.{WAVE}
 use Rattle.pp_tables.specs.Encode.{message_fields, sample_bytes}

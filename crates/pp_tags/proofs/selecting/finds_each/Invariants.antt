@@ -1,6 +1,6 @@
 use Rattle.std.proofs.Common.{◌≡◌, Bool, true, List, map, take}
 use Rattle.std.specs.List.{list_all}
-use Rattle.pp_model.specs.declared.verdicts.Tag.{Tag}
+use Rattle.pp_model.specs.Words.{Tag}
 use Rattle.pp_tags.specs.Verdicts.{finds_tag, HasTagsOf}
 use Rattle.pp_tags.proofs.selecting.finds_each.Given as goal
 

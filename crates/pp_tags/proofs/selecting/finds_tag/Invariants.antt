@@ -1,5 +1,5 @@
 use Rattle.std.proofs.Common.{◌≡◌, Bool, false, map, take}
-use Rattle.pp_model.specs.declared.verdicts.Tag.{Tag}
+use Rattle.pp_model.specs.Words.{Tag}
 use Rattle.pp_tags.specs.Verdicts.{finds_tag, HasTagsOf}
 use Rattle.pp_tags.proofs.selecting.finds_tag.Given as goal
 

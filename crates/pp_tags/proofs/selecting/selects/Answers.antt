@@ -1,5 +1,5 @@
 use Rattle.std.proofs.Common.{refl, sym, subst, ◌∙◌}
-use Rattle.pp_model.specs.Rules.{NoRuleFails}
+use Rattle.pp_model.specs.Words.{NoRuleFails}
 use Rattle.pp_tags.proofs.FilterLemmas.{nameless, named, some_read}
 use Rattle.pp_tags.proofs.LabelLemmas.{labels_have_texts}
 use Rattle.pp_tags.proofs.selecting.selects.Goals as goal

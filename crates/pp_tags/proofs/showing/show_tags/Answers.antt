@@ -1,6 +1,6 @@
 use Rattle.std.proofs.Common.{◌≡◌, ap, subst, ◌∙◌}
 use Rattle.std.specs.Prelude.{IfOk}
-use Rattle.pp_model.specs.Rules.{NoRuleFails}
+use Rattle.pp_model.specs.Words.{NoRuleFails}
 use Rattle.pp_tags.specs.Verdicts.{shown_by}
 use Rattle.pp_tags.proofs.LabelLemmas.{labels_have_texts, shown_alike}
 use Rattle.pp_tags.proofs.showing.show_tags.Goals as goal

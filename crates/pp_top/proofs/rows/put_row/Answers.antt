@@ -1,10 +1,8 @@
 use Rattle.std.proofs.Common.{pos, get_or, w64, FitsSigned, ap, rules}
 use Rattle.std.proofs.lemmas.Int.{to_z-of_z}
 use Rattle.pp_base.proofs.TextLemmas.{joined_two}
-use Rattle.pp_units.specs.Rows.{columns_text, name_end}
-use Rattle.pp_units.specs.Shown.{shown}
-use Rattle.pp_grain.specs.Naming.{name_text}
-use Rattle.pp_grain.specs.Keys.{key_written}
+use Rattle.pp_units.specs.Words.{columns_text, name_end, shown}
+use Rattle.pp_grain.specs.Words.{name_text, key_written}
 use Rattle.pp_count.specs.Table.{written_key}
 use Rattle.pp_base.proofs.TextLemmas.{put_is}
 use Rattle.pp_graph.proofs.KeyRowLemmas.{name_is_key, name_written}

@@ -1,5 +1,5 @@
 use Rattle.std.proofs.Common.{◌≡◌, ℕ, ℤ, List, ◌+ℤ◌, pos, ap, ◌∙◌, w64, to_z, of_z, get_or}
-use Rattle.pp_units.specs.Shown.{shown}
+use Rattle.pp_units.specs.Words.{shown}
 use Rattle.pp_graph.specs.KeyRows.{KeyRow, row_at}
 use Rattle.pp_top.specs.Top.{top_row}
 use Rattle.pp_graph.proofs.Running.{next_fits, next_sum, summing_more, putting_more}

@@ -1,5 +1,5 @@
 use Rattle.std.proofs.Common.{pos, slice_index_or}
-use Rattle.pp_units.specs.Shown.{shown}
+use Rattle.pp_units.specs.Words.{shown}
 use Rattle.pp_graph.specs.KeyRows.{row_at}
 use Rattle.pp_top.specs.Top.{top_row}
 use Rattle.pp_graph.proofs.Running.{Summing, Putting}

@@ -1,5 +1,5 @@
 use Rattle.std.proofs.Common.{◌∙◌}
-use Rattle.pp_units.specs.Head.{facts}
+use Rattle.pp_units.specs.Words.{facts}
 use Rattle.pp_base.proofs.TextLemmas.{appended}
 use Rattle.pp_top.proofs.Ranking.{ranked_is}
 use Rattle.pp_top.proofs.top.write_top.Goals as goal

@@ -1,5 +1,5 @@
 use Rattle.std.proofs.Common.{subst}
-use Rattle.pp_model.specs.Rules.{NoRuleFails}
+use Rattle.pp_model.specs.Words.{NoRuleFails}
 use Rattle.pp_model.proofs.RuleLemmas.{refers_from_valid}
 use Rattle.pp_tour.proofs.stack.put_sample.Goals as goal
 

@@ -2,7 +2,7 @@ use Rattle.std.proofs.Common.{◌<◌, ◌++◌, [], ◌∷◌, false, length, m
 use Rattle.std.specs.Prelude.{slice_index_or}
 use Rattle.std.proofs.lemmas.List.{map-append, take_all, take_more}
 use Rattle.std.proofs.lemmas.Option.{get_or_from_slice_get}
-use Rattle.pp_grain.specs.declared.key.Key.{Key}
+use Rattle.pp_grain.specs.Words.{Key}
 use Rattle.pp_tree.proofs.found.found_by_functions.Goals as goal
 
 -- one name more

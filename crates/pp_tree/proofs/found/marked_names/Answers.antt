@@ -1,6 +1,6 @@
 use Rattle.std.proofs.Common.{List, Bool, false, map, sym, ap, ◌∙◌}
 use Rattle.std.specs.Prelude.{slice_index_or}
-use Rattle.pp_grain.specs.declared.key.Key.{Key}
+use Rattle.pp_grain.specs.Words.{Key}
 use Rattle.pp_tree.proofs.Owned.{own_finder, then_marked}
 use Rattle.pp_tree.proofs.Named.{named_found}
 use Rattle.pp_tree.proofs.found.marked_names.Goals as goal

@@ -1,10 +1,8 @@
 use Rattle.std.proofs.Common.{w64, FitsSigned, rules}
 use Rattle.std.proofs.lemmas.Int.{to_z-of_z}
 use Rattle.pp_base.proofs.TextLemmas.{joined}
-use Rattle.pp_units.specs.Rows.{pair_text}
-use Rattle.pp_units.specs.Shown.{shown}
-use Rattle.pp_grain.specs.Naming.{name_text}
-use Rattle.pp_grain.specs.Told.{written_texts}
+use Rattle.pp_units.specs.Words.{pair_text, shown}
+use Rattle.pp_grain.specs.Words.{name_text, written_texts}
 use Rattle.pp_tree.specs.Nodes.{edge_indent, near_end}
 use Rattle.pp_tree.proofs.near.put_near.Goals as goal
 

@@ -1,5 +1,5 @@
 use Rattle.std.proofs.Common.{◌++◌, map, refl, sym, ap, ◌∙◌}
-use Rattle.pp_units.specs.Shown.{shown}
+use Rattle.pp_units.specs.Words.{shown}
 use Rattle.pp_tree.specs.Nodes.{near_text}
 use Rattle.pp_tree.specs.Tree.{near_of}
 use Rattle.pp_tree.specs.Ends.{neighbour_of}

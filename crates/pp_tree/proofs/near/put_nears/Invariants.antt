@@ -1,4 +1,4 @@
-use Rattle.pp_units.specs.Shown.{shown}
+use Rattle.pp_units.specs.Words.{shown}
 use Rattle.pp_tree.specs.Nodes.{near_text}
 use Rattle.pp_tree.specs.Tree.{near_of}
 use Rattle.pp_tree.specs.Ends.{neighbour_of}

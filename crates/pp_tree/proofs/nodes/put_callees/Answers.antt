@@ -1,6 +1,6 @@
 use Rattle.std.proofs.Common.{map, ap, ◌∙◌}
 use Rattle.std.specs.List.{flat_map}
-use Rattle.pp_units.specs.Shown.{shown}
+use Rattle.pp_units.specs.Words.{shown}
 use Rattle.pp_count.specs.Table.{written_key}
 use Rattle.pp_base.proofs.TextLemmas.{put_is}
 use Rattle.pp_tree.specs.Nodes.{near_text}

@@ -2,7 +2,7 @@ use Rattle.std.proofs.Common.{map, w64}
 use Rattle.std.specs.List.{flat_map}
 use Rattle.std.proofs.lemmas.Int.{to_z-of_z}
 use Rattle.pp_base.proofs.TextLemmas.{joined_four}
-use Rattle.pp_units.specs.Shown.{shown}
+use Rattle.pp_units.specs.Words.{shown}
 use Rattle.pp_count.specs.Table.{written_key}
 use Rattle.pp_graph.specs.KeyRows.{row_at}
 use Rattle.pp_tree.specs.Nodes.{near_text, itself_text, node_separator}

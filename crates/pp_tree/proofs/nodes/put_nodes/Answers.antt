@@ -1,5 +1,5 @@
 use Rattle.std.proofs.Common.{◌≡◌, ℕ, ℤ, List, ◌+ℤ◌, pos, ap, ◌∙◌, w64, to_z, of_z, get_or}
-use Rattle.pp_units.specs.Shown.{shown}
+use Rattle.pp_units.specs.Words.{shown}
 use Rattle.pp_graph.proofs.Running.{next_fits, next_sum, summing_more, putting_more}
 use Rattle.pp_tree.specs.Nodes.{Node, node_text}
 use Rattle.pp_tree.specs.Ends.{node_at}

@@ -1,5 +1,5 @@
 use Rattle.std.proofs.Common.{pos, slice_index_or}
-use Rattle.pp_units.specs.Shown.{shown}
+use Rattle.pp_units.specs.Words.{shown}
 use Rattle.pp_graph.proofs.Running.{Summing, Putting}
 use Rattle.pp_tree.specs.Nodes.{Node, node_text}
 use Rattle.pp_tree.specs.Ends.{Pairs, ShowsPairs, node_at}

@@ -1,6 +1,6 @@
 use Rattle.std.proofs.Common.{All}
-use Rattle.pp_model.specs.Finders.{Finder}
-use Rattle.pp_grain.specs.Keys.{IsKeyOf}
+use Rattle.pp_model.specs.Words.{Finder}
+use Rattle.pp_grain.specs.Words.{IsKeyOf}
 use Rattle.pp_stack.specs.Filters.{AreVerdicts}
 use Rattle.pp_tree.proofs.Marking.{AddedTo}
 use Rattle.pp_tree.proofs.own.add_stack.Given as goal

@@ -1,5 +1,5 @@
 use Rattle.std.proofs.Common.{subst}
-use Rattle.pp_model.specs.Rules.{IsCompact}
+use Rattle.pp_model.specs.Words.{IsCompact}
 use Rattle.pp_tree.specs.Peek.{is_found_key}
 use Rattle.pp_tree.proofs.Owned.{own_finder, keys_found, names_marked, then_marked}
 use Rattle.pp_tree.proofs.own.found_by_frames.Goals as goal

@@ -1,6 +1,6 @@
 use Rattle.std.proofs.Common.{◌≡◌, map, take}
 use Rattle.std.specs.List.{list_any}
-use Rattle.pp_grain.specs.Sight.{same_key}
+use Rattle.pp_grain.specs.Words.{same_key}
 use Rattle.pp_tree.proofs.own.marks.Given as goal
 
 -- the names so far are marked

@@ -1,6 +1,6 @@
 use Rattle.std.proofs.Common.{All}
-use Rattle.pp_model.specs.Finders.{Finder, Finders, HoldsFinders}
-use Rattle.pp_grain.specs.Keys.{IsKeyOf}
+use Rattle.pp_model.specs.Words.{Finder, Finders, HoldsFinders}
+use Rattle.pp_grain.specs.Words.{IsKeyOf}
 use Rattle.pp_stack.specs.Filters.{AreVerdicts}
 use Rattle.pp_tree.specs.Found.{has_own_number}
 use Rattle.pp_tree.proofs.Marking.{GatheredTo}

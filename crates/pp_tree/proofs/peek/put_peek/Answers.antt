@@ -1,8 +1,6 @@
 use Rattle.std.proofs.Common.{map, pos, w64}
 use Rattle.std.proofs.lemmas.Int.{to_z-of_z}
-use Rattle.pp_units.specs.Head.{facts, facts_text}
-use Rattle.pp_units.specs.Rows.{showing_line}
-use Rattle.pp_units.specs.Shown.{shown}
+use Rattle.pp_units.specs.Words.{facts, facts_text, showing_line, shown}
 use Rattle.pp_base.proofs.TextLemmas.{joined_four}
 use Rattle.pp_tree.specs.Nodes.{table_heading, tree_nodes_text}
 use Rattle.pp_tree.specs.Ends.{node_at}

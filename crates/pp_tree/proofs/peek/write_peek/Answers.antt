@@ -1,8 +1,8 @@
 use Rattle.std.proofs.Common.{◌≡◌, ◌++◌, false, get_or, w64, FitsSigned, subst, sym, ap, ◌∙◌, rules}
 use Rattle.std.specs.List.{filter}
 use Rattle.std.proofs.lemmas.Int.{to_z-of_z}
-use Rattle.pp_units.specs.Head.{facts}
-use Rattle.pp_model.specs.declared.profile.Profile.{Profile}
+use Rattle.pp_units.specs.Words.{facts}
+use Rattle.pp_model.specs.Words.{Profile}
 use Rattle.pp_tree.specs.Ends.{ShowsPairs}
 use Rattle.pp_tree.specs.Peek.{is_found_key}
 use Rattle.pp_tree.specs.Whole.{all_pairs, pairs_about}

@@ -1,8 +1,7 @@
 use Rattle.std.proofs.Common.{length, w64, FitsSigned, rules}
 use Rattle.std.proofs.lemmas.Int.{to_z-of_z}
 use Rattle.pp_base.proofs.TextLemmas.{joined_four}
-use Rattle.pp_units.specs.Rows.{showing_line, dropped_line, limited_line, dropped_nodes, dropped_edges}
-use Rattle.pp_units.specs.Shown.{shown}
+use Rattle.pp_units.specs.Words.{showing_line, dropped_line, limited_line, dropped_nodes, dropped_edges, shown}
 use Rattle.pp_tree.proofs.tree.put_summary.Goals as goal
 
 pub returns : goal.returns

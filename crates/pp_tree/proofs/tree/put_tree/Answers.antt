@@ -1,7 +1,6 @@
 use Rattle.std.proofs.Common.{length, map, pos, subst, sym}
-use Rattle.pp_model.specs.declared.profile.Profile.{Profile}
-use Rattle.pp_units.specs.Head.{facts, facts_text}
-use Rattle.pp_units.specs.Shown.{shown}
+use Rattle.pp_model.specs.Words.{Profile}
+use Rattle.pp_units.specs.Words.{facts, facts_text, shown}
 use Rattle.pp_base.proofs.TextLemmas.{put_is, joined_four}
 use Rattle.pp_tree.specs.Nodes.{table_heading, tree_nodes_text}
 use Rattle.pp_tree.specs.Tree.{summary_text}

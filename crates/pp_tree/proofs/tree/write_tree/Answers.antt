@@ -1,5 +1,5 @@
 use Rattle.std.proofs.Common.{◌∙◌}
-use Rattle.pp_units.specs.Head.{facts}
+use Rattle.pp_units.specs.Words.{facts}
 use Rattle.pp_base.proofs.TextLemmas.{appended}
 use Rattle.pp_tree.proofs.Shown.{report_pairs, report_shows, trimmed_is}
 use Rattle.pp_tree.proofs.tree.write_tree.Goals as goal

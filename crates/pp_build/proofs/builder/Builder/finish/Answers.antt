@@ -1,5 +1,5 @@
 use Rattle.std.proofs.Common.{sym, subst}
-use Rattle.pp_model.specs.Rules.{NoRuleFails}
+use Rattle.pp_model.specs.Words.{NoRuleFails}
 use Rattle.pp_build.proofs.BuiltLemmas.{built_valid}
 use Rattle.pp_build.proofs.builder.Builder.finish.Goals as goal
 

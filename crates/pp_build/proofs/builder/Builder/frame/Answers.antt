@@ -3,7 +3,7 @@ use Rattle.std.specs.Str.{bytes_eq}
 use Rattle.std.proofs.lemmas.Int.{to_z-of_z}
 use Rattle.std.proofs.lemmas.Result.{IfOk-weaker, on_ok_weaker, on_err_weaker}
 use Rattle.pp_base.proofs.TextLemmas.{on_err}
-use Rattle.pp_model.specs.Lookup.{text_at}
+use Rattle.pp_model.specs.Words.{text_at}
 use Rattle.pp_build.specs.Adding.{with_new_text, with_function, with_location, location_number, frame_location}
 use Rattle.pp_build.specs.Given.{function_of}
 use Rattle.pp_build.specs.Growing.{IsBuilt, HasMoreNames}

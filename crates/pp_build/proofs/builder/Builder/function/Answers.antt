@@ -1,7 +1,6 @@
 use Rattle.std.proofs.Common.{w64, ℕ, ◌+◌, ◌<◌, List, length, map, Some, sym, ap, subst, ◌∙◌}
 use Rattle.std.proofs.lemmas.Int.{to_z-of_z}
-use Rattle.pp_model.specs.declared.profile.Function.{Function}
-use Rattle.pp_model.specs.declared.profile.Profile.{Profile}
+use Rattle.pp_model.specs.Words.{Function, Profile}
 use Rattle.pp_build.specs.Given.{function_of}
 use Rattle.pp_build.specs.Seen.{keyed_function, bare_function}
 use Rattle.pp_build.specs.Growing.{IsBuilt}

@@ -1,16 +1,13 @@
 use Rattle.std.proofs.Common.{◌+◌, ◌≤◌, List, length, map, sym, ap, subst, ◌∙◌}
 use Rattle.std.specs.Prelude.{false}
 use Rattle.std.proofs.lemmas.List.Elements.{recursion_from_All}
-use Rattle.pp_model.specs.declared.profile.Line.{Line}
-use Rattle.pp_model.specs.declared.profile.Location.{Location}
-use Rattle.pp_model.specs.declared.profile.Profile.{Profile}
+use Rattle.pp_model.specs.Words.{Line, Location, Profile, written_at}
 use Rattle.pp_share.proofs.NumberedLemmas.{all_mapped}
 use Rattle.pp_build.specs.declared.given.SourceLine.{SourceLine}
 use Rattle.pp_build.specs.Given.{given_line, given_location}
 use Rattle.pp_build.specs.Seen.{keyed_location, bare_location}
 use Rattle.pp_build.specs.Growing.{IsBuilt, LocationIn}
 use Rattle.pp_build.proofs.PutLemmas.{location_put}
-use Rattle.pp_model.specs.FrameTexts.{written_at}
 use Rattle.pp_build.specs.Said.{location_frames, said_samples}
 use Rattle.pp_build.proofs.ChangeLemmas.{location_built}
 use Rattle.pp_build.proofs.SaidLemmas.{location_said}

@@ -1,5 +1,5 @@
 use Rattle.std.proofs.Common.{ℕ, ◌+◌, ◌<◌, length, Some, sym, ap, subst, ◌∙◌}
-use Rattle.pp_model.specs.declared.profile.Profile.{Profile}
+use Rattle.pp_model.specs.Words.{Profile}
 use Rattle.pp_build.specs.Given.{given_mapping}
 use Rattle.pp_build.proofs.ChangeLemmas.{text_in}
 use Rattle.pp_build.proofs.PutLemmas.{mapping_put}

@@ -1,6 +1,6 @@
 use Rattle.std.proofs.Common.{◌≡◌, List, [], ◌∷◌, ◌++◌, ap, ◌∙◌}
 use Rattle.indexmap.proofs.MapLemmas.{OnOk-map}
-use Rattle.pp_model.specs.declared.profile.Sample.{Sample}
+use Rattle.pp_model.specs.Words.{Sample}
 use Rattle.pp_build.proofs.SampleLemmas.{sample_pushed}
 use Rattle.pp_build.specs.Given.{given_sample}
 use Rattle.pp_build.specs.Said.{said_sample, said_samples}

@@ -1,6 +1,5 @@
 use Rattle.std.proofs.Common.{◌<◌, ◌^◌, length, sym, ap, subst, ◌∙◌, arith}
-use Rattle.pp_model.specs.declared.profile.Profile.{Profile}
-use Rattle.pp_model.specs.Lookup.{text_at}
+use Rattle.pp_model.specs.Words.{Profile, text_at}
 use Rattle.pp_build.specs.Growing.{IsBuilt}
 use Rattle.pp_build.specs.Said.{said_samples}
 use Rattle.pp_build.proofs.ChangeLemmas.{text_built}

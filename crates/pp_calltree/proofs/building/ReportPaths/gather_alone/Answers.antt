@@ -1,6 +1,6 @@
 use Rattle.std.proofs.Common.{List, subst, arith}
 use Rattle.std.proofs.lemmas.List.{take_all}
-use Rattle.pp_model.specs.declared.profile.Sample.{Sample}
+use Rattle.pp_model.specs.Words.{Sample}
 use Rattle.pp_count.specs.Scope.{samples_in_scope}
 use Rattle.pp_calltree.specs.Paths.{HasPaths}
 use Rattle.pp_calltree.proofs.Built.{paths_gathered}

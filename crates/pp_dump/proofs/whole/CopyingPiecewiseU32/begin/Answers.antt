@@ -1,5 +1,5 @@
 use Rattle.std.proofs.Common.{[], sym, subst}
-use Rattle.pp_model.specs.Rules.{NoRuleFails, IsCompact}
+use Rattle.pp_model.specs.Words.{NoRuleFails, IsCompact}
 use Rattle.std.proofs.lemmas.Result.{IfOk-weaker}
 use Rattle.pp_dump.specs.Places.{AreCopies}
 use Rattle.pp_dump.proofs.AddingSamples.{copies_none}

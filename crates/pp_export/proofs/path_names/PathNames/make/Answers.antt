@@ -1,6 +1,5 @@
 use Rattle.std.proofs.Common.{◌++◌, ap, ◌∙◌}
-use Rattle.pp_grain.specs.Keys.{key_written}
-use Rattle.pp_grain.specs.Naming.{name_text}
+use Rattle.pp_grain.specs.Words.{key_written, name_text}
 use Rattle.pp_export.specs.Escaped.{escaped_name}
 use Rattle.pp_export.specs.PathNames.{numbered_name}
 use Rattle.pp_export.proofs.path_names.PathNames.make.Goals as goal

@@ -1,7 +1,6 @@
 use Rattle.std.proofs.Common.{ap, ◌∙◌, sym, rules, w32, FitsSigned}
 use Rattle.std.proofs.lemmas.Int.{to_z-of_z}
-use Rattle.pp_model.specs.declared.presentation.Presentation.{Presentation}
-use Rattle.pp_model.specs.declared.environment.Environment.{Environment}
+use Rattle.pp_model.specs.Words.{Presentation, Environment}
 use Rattle.pp_options.specs.Settings.{assigned}
 use Rattle.pp_options.proofs.SettingLemmas.{nodecount_is, divisor_is, workers_is, presented}
 use Rattle.pp_options.proofs.setting.Setting.assign.Goals as goal

@@ -1,5 +1,5 @@
 use Rattle.std.proofs.Common.{refl, ap, ◌∙◌, map, List}
-use Rattle.pp_model.specs.FirstSight.{place_of, seen_with}
+use Rattle.pp_model.specs.Words.{place_of, seen_with}
 use Rattle.pp_samples.specs.TagLines.{TagTexts, same_tag}
 use Rattle.pp_samples.specs.Names.{name_texts}
 use Rattle.pp_samples.proofs.TagNamesLemmas.{place_told, seen_told}

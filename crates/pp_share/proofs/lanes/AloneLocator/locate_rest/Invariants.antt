@@ -1,5 +1,5 @@
 use Rattle.std.proofs.Common.{◌≡◌, ℕ, ◌<◌, nat_lt, length, get_or, if◌then◌else◌}
-use Rattle.pp_model.specs.declared.profile.Sample.{Sample}
+use Rattle.pp_model.specs.Words.{Sample}
 use Rattle.pp_share.specs.Located.{placed_from}
 use Rattle.pp_share.specs.Renumbered.{new_ids}
 use Rattle.pp_share.proofs.lanes.AloneLocator.locate_rest.Given as goal

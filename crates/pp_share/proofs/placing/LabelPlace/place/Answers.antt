@@ -1,5 +1,5 @@
 use Rattle.std.proofs.Common.{◌≡◌, ◌++◌, sym, ap, ◌∙◌}
-use Rattle.pp_model.specs.declared.profile.Label.{Label}
+use Rattle.pp_model.specs.Words.{Label}
 use Rattle.pp_share.specs.Walk.{met_after, text_ids}
 use Rattle.pp_share.specs.Walked.{placed_text}
 use Rattle.pp_share.proofs.placing.LabelPlace.place.Goals as goal
