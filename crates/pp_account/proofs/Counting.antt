@@ -34,7 +34,7 @@ use Rattle.pp_count.proofs.Based.{selected-append, selected_within}
 use Rattle.pp_count.proofs.Totals.{filter_size}
 use Rattle.pp_account.specs.declared.portion.Portion.{Portion}
 use Rattle.pp_account.specs.declared.portions.Portions.{Portions as PortionsOf}
-use Rattle.pp_account.specs.Adding.{portion_plus, portion_plus_if, with_sample}
+use Rattle.pp_account.specs.Adding.{portion_plus, portion_plus_if, with_sample_value}
 use Rattle.pp_account.specs.First.{first_filter, is_filter}
 use Rattle.pp_account.specs.Portions.{portion_of, portions_of, is_bare}
 use Rattle.pp_account.proofs.Firsts.{left_or_dropped}
@@ -88,7 +88,7 @@ ended : (first : Option Slot) (bare : Bool) (v : ℤ) (d : PortionsOf)
       tagignore = portion_plus_if (is_filter slots.TagIgnore first) d.tagignore v;
       left = portion_plus_if (not (is_some first)) d.left v;
       bare = portion_plus_if bare d.bare v;
-    } ≡ with_sample first bare v d
+    } ≡ with_sample_value first bare v d
 ended None bare v d = refl
 ended (Some slots.Focus) bare v d = refl
 ended (Some slots.Ignore) bare v d = refl
@@ -106,7 +106,7 @@ module _ (p : Profile) (f : Finders) (config : Config) (column : Option ℕ) whe
   -- the portions with one sample more
   pub portions_push : (ss : List Sample) (s : Sample) → length ss + 1 < 2 ^ 64 → absolute_all column config.presentation.divide_by ss + nat_abs (selected column config.presentation.divide_by s) < 2 ^ 63
       → portions_of p f config column (ss ++ s ∷ [])
-      ≡ with_sample (first_filter p f config.filtering s) (is_bare p f config column s) (selected column config.presentation.divide_by s) (portions_of p f config column ss)
+      ≡ with_sample_value (first_filter p f config.filtering s) (is_bare p f config column s) (selected column config.presentation.divide_by s) (portions_of p f config column ss)
   portions_push ss s few fits =
       let at = λ (slot : Slot). portion_more config column ss s few fits (λ x. is_filter slot (first_filter p f config.filtering x)) in
       let left = portion_more config column ss s few fits (λ x. is_some (filtered_stack p f config.filtering x))
@@ -128,7 +128,7 @@ module _ (p : Profile) (f : Finders) (config : Config) (column : Option ℕ) whe
   -- those of the first samples, with one more
   pub portions_more : (ss : List Sample) (i : ℕ) → i < length ss → length ss < 2 ^ 32 → absolute_all column config.presentation.divide_by ss < 2 ^ 63
       → portions_of p f config column (take (i + 1) ss)
-      ≡ with_sample (first_filter p f config.filtering (get_or ss i no_sample)) (is_bare p f config column (get_or ss i no_sample))
+      ≡ with_sample_value (first_filter p f config.filtering (get_or ss i no_sample)) (is_bare p f config column (get_or ss i no_sample))
       (selected column config.presentation.divide_by (get_or ss i no_sample)) (portions_of p f config column (take i ss))
   portions_more ss i here few fits =
       let size : Sample → ℕ = λ x. nat_abs (selected column config.presentation.divide_by x) in
@@ -162,11 +162,11 @@ bare_is p f config column s name kept bare value keys seen value_is is =
 pub next_portions : (p : Profile) (f : Finders) (config : Config) (column : Option ℕ) (ss : List Sample) (i : ℕ) (s : Sample) (old new : PortionsOf)
     → i < length ss → length ss < 2 ^ 32 → absolute_all column config.presentation.divide_by ss < 2 ^ 63 → slice_get ss i ≡ Some s
     → old ≡ portions_of p f config column (take i ss)
-    → new ≡ with_sample (first_filter p f config.filtering s) (is_bare p f config column s) (selected column config.presentation.divide_by s) old
+    → new ≡ with_sample_value (first_filter p f config.filtering s) (is_bare p f config column s) (selected column config.presentation.divide_by s) old
     → new ≡ portions_of p f config column (take (i + 1) ss)
 next_portions p f config column ss i s old new here few fits there so_far is =
-    let more : Sample → PortionsOf = λ x. with_sample (first_filter p f config.filtering x) (is_bare p f config column x) (selected column config.presentation.divide_by x) (portions_of p f config column (take i ss)) in
-    is ∙ ap (with_sample (first_filter p f config.filtering s) (is_bare p f config column s) (selected column config.presentation.divide_by s)) so_far
+    let more : Sample → PortionsOf = λ x. with_sample_value (first_filter p f config.filtering x) (is_bare p f config column x) (selected column config.presentation.divide_by x) (portions_of p f config column (take i ss)) in
+    is ∙ ap (with_sample_value (first_filter p f config.filtering s) (is_bare p f config column s) (selected column config.presentation.divide_by s)) so_far
     ∙ sym (portions_more p f config column ss i here few fits ∙ ap more (get_or_from_slice_get ss i s no_sample there))
 
 -- the samples of a scope in which none are chosen

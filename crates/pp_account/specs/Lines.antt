@@ -27,22 +27,22 @@ filter_line f filtering d h slot =
     then portion_line h (portion_at d slot) (filter_name filtering slot) else []
 
 -- the lines of the rows of samples
-abbrev pub sample_lines : Finders → Filtering → PortionsOf → Facts → List ℕ
-sample_lines f filtering d h =
+abbrev pub sample_portion_lines : Finders → Filtering → PortionsOf → Facts → List ℕ
+sample_portion_lines f filtering d h =
     portion_line h d.loaded (codes "loaded") ++ flat_map (filter_line f filtering d h) dropping
     ++ portion_line h d.left (codes "left") ++ flat_map (account_line h) (bare_row d.bare)
 
 -- the lines of the rows of keys
-abbrev pub node_lines : NodePortions → Facts → List ℕ
-node_lines n h =
+abbrev pub node_portion_lines : NodePortions → Facts → List ℕ
+node_portion_lines n h =
     portion_line h n.counted (codes "counted") ++ portion_line h n.light (codes "below nodefraction")
     ++ portion_line h n.beyond (codes "beyond nodecount") ++ portion_line h n.shown (codes "shown")
 
 -- the whole text
 abbrev pub account_lines : Finders → Filtering → PortionsOf → NodePortions → Facts → List ℕ
 account_lines f filtering d n h =
-    facts_text h ++ account_heading (codes "samples") ++ sample_lines f filtering d h
-    ++ account_heading (codes "nodes") ++ node_lines n h
+    facts_text h ++ account_heading (codes "samples") ++ sample_portion_lines f filtering d h
+    ++ account_heading (codes "nodes") ++ node_portion_lines n h
 
 -- the portions are those of the report's keys under this limit
 abbrev pub AreNodesOf : Profile → Finders → Config → Option ℕ → ℕ → NodePortions → Type 0

@@ -10,7 +10,7 @@ ghost use Rattle.pp_count.specs.Seeing.{HoldsFilters};
 ghost use Rattle.pp_account.specs.Account.{account_heading, account_line, bare_row, dropping, filter_name, filter_text};
 ghost use Rattle.pp_account.specs.Adding.{portion_at};
 ghost use Rattle.pp_account.specs.First.{is_in_force};
-ghost use Rattle.pp_account.specs.Lines.{filter_line, node_lines, sample_lines};
+ghost use Rattle.pp_account.specs.Lines.{filter_line, node_portion_lines, sample_portion_lines};
 
 use crate::nodes::NodePortions;
 use crate::portion::Portion;
@@ -45,7 +45,7 @@ pub fn put_sample_rows(
     ensures { (f : Finders) →
         HoldsFilters survey.now.l.now survey.now.v.now survey.now.config.now.filtering f →
         IfOk result (λ _. out.new ≡ out.old
-        ++ sample_lines f survey.now.config.now.filtering portions.now (facts head.now)) }
+        ++ sample_portion_lines f survey.now.config.now.filtering portions.now (facts head.now)) }
 {
     let mut scratch = Text::new(alloc);
     put_row(portions.loaded, b"loaded", head, &mut scratch, out)?;
@@ -180,7 +180,8 @@ pub fn put_node_rows(
     head: &Head,
     out: &mut Text,
 ) -> Result<(), Memory>
-    ensures { IfOk result (λ _. out.new ≡ out.old ++ node_lines portions.now (facts head.now)) }
+    ensures { IfOk result (λ _. out.new ≡ out.old
+        ++ node_portion_lines portions.now (facts head.now)) }
 {
     let mut scratch = Text::new(alloc);
     put_row(portions.counted, b"counted", head, &mut scratch, out)?;

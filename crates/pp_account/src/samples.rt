@@ -7,7 +7,7 @@ ghost use Rattle.pp_stack.specs.Filters.{has_no_items};
 ghost use Rattle.pp_count.specs.Column.{selected};
 ghost use Rattle.pp_count.specs.Scope.{AreCountable, IsSoundScope, config_of};
 ghost use Rattle.pp_count.specs.Seeing.{HoldsFilters, filtered_stack};
-ghost use Rattle.pp_account.specs.Adding.{with_sample};
+ghost use Rattle.pp_account.specs.Adding.{with_sample_value};
 ghost use Rattle.pp_account.specs.First.{first_filter};
 ghost use Rattle.pp_account.specs.Portions.{is_bare, portions_of};
 
@@ -20,7 +20,7 @@ use std::alloc::Global;
 
 // What is seen of one sample, in room that is used again.
 #[derive(Drop)]
-struct Room {
+struct SampleRoom {
     // Its frames, as far as they are needed.
     stack: Stack,
     // The key numbers of its frames that count.
@@ -58,7 +58,7 @@ fn add_samples(alloc: Global, scope: &Scope) -> Result<Portions, Memory>
         IfOk result (λ d. d
         ≡ portions_of w.l.now.profile f (config_of w) w.column w.l.now.profile.sample) }
 {
-    let mut room = Room {
+    let mut room = SampleRoom {
         stack: List::new(alloc),
         keys: Vec::new(alloc),
     };
@@ -73,7 +73,7 @@ fn add_samples(alloc: Global, scope: &Scope) -> Result<Portions, Memory>
 fn add_sample(
     scope: &Scope,
     s: &Sample,
-    room: &mut Room,
+    room: &mut SampleRoom,
     portions: &mut Portions,
 ) -> Result<(), Memory>
     requires sound { IsSoundScope scope.now }
@@ -82,7 +82,7 @@ fn add_sample(
     ensures { let w = scope.now in (f : Finders) →
         HoldsFilters w.l.now w.v.now w.config.now.filtering f →
         IfOk result (λ _. portions.new
-        ≡ with_sample (first_filter w.l.now.profile f w.config.now.filtering s.now)
+        ≡ with_sample_value (first_filter w.l.now.profile f w.config.now.filtering s.now)
         (is_bare w.l.now.profile f (config_of w) w.column s.now)
         (selected w.column w.config.now.presentation.divide_by s.now) portions.old) }
 {

@@ -9,7 +9,7 @@ use Rattle.pp_count.specs.declared.scope.Scope.{Scope}
 use Rattle.pp_count.specs.Scope.{profile_in_scope, config_of, samples_in_scope, AreCountable, IsSoundScope}
 use Rattle.pp_count.specs.Seeing.{HoldsFilters, seen_samples}
 use Rattle.pp_count.specs.Sums.{Seen}
-use Rattle.pp_calltree.specs.declared.path.Part.{Part}
+use Rattle.pp_calltree.specs.declared.path.PathPart.{PathPart}
 use Rattle.pp_calltree.specs.declared.paths.Paths.{Paths}
 use Rattle.pp_calltree.specs.CallTree.{all_lengths, path_samples}
 use Rattle.pp_calltree.specs.Laid.{written_out, HasRoom}
@@ -38,7 +38,7 @@ samples_of_paths paths = parts_of paths.keys.items paths.parts.items
 -- The paths are those of the report's samples, and can be laid out.
 pub record AreGathered (scope : Scope) (paths : Paths) : Type 0 where
   pub sound : IsSoundScope scope
-  pub whole : sum_by (λ (s : Part). s.len) paths.parts.items ≡ length paths.keys.items
+  pub whole : sum_by (λ (s : PathPart). s.len) paths.parts.items ≡ length paths.keys.items
   pub room : HasRoom scope.table.now.names (all_lengths (samples_of_paths paths)) (samples_of_paths paths)
   pub are : (f : Finders) → HoldsFilters scope.l.now scope.v.now scope.config.now.filtering f
       → written_out (profile_in_scope scope) scope.table.now.names (samples_of_paths paths)

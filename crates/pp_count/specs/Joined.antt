@@ -40,8 +40,8 @@ pub record AreWithin (size : ℕ) (sums : List KeySum) : Type 0 where
   pub cum : cum_size sums ≤ size
 
 -- The part is what these samples come to, whatever the patterns find, where the first of them has the number `number`.
--- It has the numbers of those that the filters leave, in order, the sums of the names that occur in them, and the
--- matches of all of them.
+-- It has the numbers of those that the filters leave, in order, and the sums of the names that occur in them. The
+-- matches are those of all of them.
 pub record IsRangePart (l : Loaded) (v : Verdicts) (config : Config) (column : Option ℕ)
     (names : List Key) (number : ℕ) (samples : List Sample) (part : Part) : Type 0 where
   pub kept : (f : Finders) → HoldsFilters l v config.filtering f

@@ -96,7 +96,7 @@ fn table_and_filters(
 }
 
 // What all samples come to, with what they were counted by.
-fn counted_of(whole: Whole, by: (KeyTable, Filters)) -> Counted
+fn counted_of(whole: WholeCount, by: (KeyTable, Filters)) -> Counted
     ensures { result ≡ record {
       kept = whole.sofar.kept;
       sums = whole.keyed.sums;
@@ -122,7 +122,7 @@ fn counted_of(whole: Whole, by: (KeyTable, Filters)) -> Counted
 
 // What all samples come to, by key numbers and by keys.
 #[derive(Drop)]
-struct Whole {
+struct WholeCount {
     sofar: Sofar,
     keyed: NumberedSums,
     // What percentages are taken of.
@@ -135,7 +135,7 @@ fn count_whole<R: Threads + Sync, G: Gate>(
     alloc: Global,
     scope: &Scope,
     gate: &G,
-) -> Result<Whole, Memory>
+) -> Result<WholeCount, Memory>
     requires sound { IsSoundScope scope.now }
     requires countable { AreCountable scope.now (samples_in_scope scope.now) }
     requires keys { scope.now.over ≡ None }
@@ -152,7 +152,7 @@ fn count_whole<R: Threads + Sync, G: Gate>(
     match sums_so_far(alloc, scope, &sofar) {
         Ok(keyed) => {
             let total = sofar.totals.total();
-            Ok(Whole {
+            Ok(WholeCount {
                 sofar,
                 keyed,
                 total,

@@ -82,10 +82,10 @@ impl Filters {
 }
 
 // The filters of `tagfocus` and of `tagignore`.
-type TagFilters = (Option<TagFilter>, Option<TagFilter>);
+type TagFilterPair = (Option<TagFilter>, Option<TagFilter>);
 
 // The tag filters, each where it is in force.
-fn tag_filters(alloc: Global, filtering: &Filtering) -> Result<TagFilters, Memory>
+fn tag_filters(alloc: Global, filtering: &Filtering) -> Result<TagFilterPair, Memory>
     ensures focus { IfOk result (λ tags. tags.0 ≡ filter_in_force filtering.now.tagfocus) }
     ensures ignore { IfOk result (λ tags. tags.1 ≡ filter_in_force filtering.now.tagignore) }
 {
@@ -95,7 +95,7 @@ fn tag_filters(alloc: Global, filtering: &Filtering) -> Result<TagFilters, Memor
 }
 
 // The tag filters with these tables.
-fn with_tables(tags: TagFilters, tables: VerdictTables) -> Filters
+fn with_tables(tags: TagFilterPair, tables: VerdictTables) -> Filters
     ensures focus { result.tagfocus ≡ tags.0 }
     ensures ignore { result.tagignore ≡ tags.1 }
     ensures tables { result.tables ≡ tables }

@@ -26,7 +26,7 @@ use Rattle.pp_report.specs.Prepared.{Showing, prepare_counts, prepare_showing, s
 use Rattle.pp_report.specs.Reports.{list_text, text_by, finish_on, finish_made, finish}
 use Rattle.pp_report.specs.Tagged.{basis_of}
 use Rattle.pp_source.specs.Files.{files_of_lines}
-use Rattle.pp_source.specs.declared.source.Source.{Source}
+use Rattle.pp_source.specs.declared.source.FileSource.{FileSource}
 use Rattle.pp_source.specs.declared.source.TheConstants.{SOURCE_LIMIT}
 use Rattle.pp_source.specs.Listing.{or_next, first_present, source_found, source_of, read_sources, list_lines, list_found, list_report}
 use Rattle.pp_pattern.proofs.AskQuiet.{only_asking, only_judge}
@@ -59,7 +59,7 @@ module _ (test : Step → Bool) where
     only_prepare report = only_settled report (showing_for report l.profile config.presentation)
 
   module _ (reads : (path : List ℕ) (limit : ℕ) → test (ReadFile path limit) ≡ true) where
-    only_or : (next : Script Source) (found : Option Source) → Only test next → Only test (or_next next found)
+    only_or : (next : Script FileSource) (found : Option FileSource) → Only test next → Only test (or_next next found)
     only_or next None n = n
     only_or next (Some source) n = tt
 
@@ -73,7 +73,7 @@ module _ (test : Step → Bool) where
     only_source environment [] = tt
     only_source environment (b ∷ file) = only_present _
 
-    only_sources : (config : Config) (sources : List Source) (files : List (List ℕ)) → Only test (read_sources config.environment sources files)
+    only_sources : (config : Config) (sources : List FileSource) (files : List (List ℕ)) → Only test (read_sources config.environment sources files)
     unfolding read_sources
     only_sources config sources [] = tt
     only_sources config sources (file ∷ files) = only_then test (source_of config.environment file) _ (only_source config.environment file) (λ source. only_sources config (sources ++ source ∷ []) files)

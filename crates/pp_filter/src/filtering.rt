@@ -12,7 +12,7 @@ ghost use Rattle.pp_count.specs.Seeing.{HoldsFilters};
 ghost use Rattle.pp_dump.specs.Saved.{saved};
 
 use crate::FilterRefusal;
-use crate::judging::{load, verdicts};
+use crate::judging::{ask_option_patterns, ask_profile_patterns};
 use crate::refusal::Refused;
 use pp_base::{Matcher, Memory, OpenGate};
 use pp_count::count;
@@ -97,7 +97,7 @@ fn filter<R: Threads + Sync, D: Desk>(
         (settled result) }
     ensures saved { IfOk result (SavesFiltered D.finds profile config.now) }
 {
-    let l = load(alloc, profile, desk)?;
+    let l = ask_profile_patterns(alloc, profile, desk)?;
     let framed = framed_for(alloc, HashKeys::fixed(), &l, &config.presentation)?;
     filter_loaded(rt, alloc, basis(&framed, &l), config, desk)
 }
@@ -119,7 +119,7 @@ fn filter_loaded<R: Threads + Sync, D: Desk>(
 {
     // A profile's texts are distinct, so that verdicts on them tell what is found.
     let _profile = l.profile.get();
-    let v = verdicts(alloc, l, &config.filtering, desk)?;
+    let v = ask_option_patterns(alloc, l, &config.filtering, desk)?;
     let saved = save(rt, alloc, l, &v, config)?;
     Ok(saved)
 }

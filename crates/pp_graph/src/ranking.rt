@@ -9,7 +9,7 @@ ghost use Rattle.pp_graph.specs.Ranks.{sum_of_name};
 ghost use Rattle.pp_graph.specs.Trim.{shown_keys};
 ghost use Rattle.pp_graph.specs.Trimmed.{int_sum, IsRankedOf, IsWholeRanking};
 
-use crate::heavy::{Row, ranked};
+use crate::heavy::{RankedRow, ranked};
 use pp_base::{Fraction, List, Memory};
 use pp_count::Counted;
 use pp_model::{Config, Loaded, Sort};
@@ -103,7 +103,7 @@ fn rank_by(
 }
 
 // As many rows as the limit says, and all of them where it is 0.
-fn first_rows<'x, 'a>(rows: &'x [Row<'a>], limit: u32) -> &'x [Row<'a>]
+fn first_rows<'x, 'a>(rows: &'x [RankedRow<'a>], limit: u32) -> &'x [RankedRow<'a>]
     ensures { result.now ≡ shown_keys limit rows.now }
 {
     if limit == 0 {
@@ -114,7 +114,7 @@ fn first_rows<'x, 'a>(rows: &'x [Row<'a>], limit: u32) -> &'x [Row<'a>]
 }
 
 // The numbers of the rows, in order.
-fn numbers_of(alloc: Global, rows: &[Row]) -> Result<List<u64>, Memory>
+fn numbers_of(alloc: Global, rows: &[RankedRow]) -> Result<List<u64>, Memory>
     ensures { IfOk result (λ order. order ≡ map (λ row. row.number) rows.now) }
 {
     let mut order = List::new(alloc);

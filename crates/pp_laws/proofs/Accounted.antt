@@ -35,7 +35,7 @@ use Rattle.pp_laws.proofs.AddingUp.{all_counted}
 use Rattle.pp_account.specs.declared.portion.Portion.{Portion}
 use Rattle.pp_account.specs.Account.{AccountRow, dropping, filter_row}
 use Rattle.pp_account.specs.First.{finds_or, first_filter, slot_else, is_filter, is_in_force}
-use Rattle.pp_laws.specs.Accounts.{together, SamplesAddUp, OthersDropNone, NodesAddUp, ValuesAddUp}
+use Rattle.pp_laws.specs.Accounts.{portion_sum, SamplesAddUp, OthersDropNone, NodesAddUp, ValuesAddUp}
 use Rattle.pp_account.specs.Nodes.{keys_portion, light_keys, keys_beyond, past_limit}
 use Rattle.pp_account.specs.Portions.{portion_of, dropped_samples, is_bare, bare_samples}
 use Rattle.pp_account.proofs.Each.{never_emptied}
@@ -135,7 +135,7 @@ module _ (p : Profile) (f : Finders) (config : Config) (column : Option ℕ) whe
   part slot ss = dropped_samples p f config.filtering slot ss
 
   abbrev ends : List Sample → Portion
-  ends ss = together (map (λ slot. portion_of config.presentation column (part slot ss)) dropping ++ portion_of config.presentation column (filtered_samples p f config.filtering ss) ∷ [])
+  ends ss = portion_sum (map (λ slot. portion_of config.presentation column (part slot ss)) dropping ++ portion_of config.presentation column (filtered_samples p f config.filtering ss) ∷ [])
 
   all_end : (ss : List Sample) → (length ss ≡ (ends ss).count) × (worth config.presentation column ss ≡ (ends ss).value)
   all_end [] = (refl, refl)

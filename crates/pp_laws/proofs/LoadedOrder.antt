@@ -36,7 +36,7 @@ use Rattle.pp_laws.proofs.SeenAs.{value_told, value_same, sees, telling, Fine, e
 use Rattle.pp_laws.proofs.SumsMoved.{sums_moved}
 
 -- profiles with one header have the same columns
-same_columns : (p q : Profile) → header_of q [] ≡ header_of p [] → (text : List ℕ) → column_of q text ≡ column_of p text
+pub same_columns : (p q : Profile) → header_of q [] ≡ header_of p [] → (text : List ℕ) → column_of q text ≡ column_of p text
 same_columns p q header =
     columns_alike p q
     (sym (map-map (λ (t : TypeText). t.kind) (type_text q) q.sample_type) ∙ ap (λ (h : HeaderText). map (λ t. t.kind) h.types) header

@@ -57,7 +57,7 @@ any_seen {Y = Y} test g (x ∷ xs) =
     ]
 
 -- orders by the same sums are the same
-same_order : (sort : Sort) (ss ts : List (Seen Written)) → flat key_cmp ss ≡ flat key_cmp ts → cum key_cmp ss ≡ cum key_cmp ts
+pub same_order : (sort : Sort) (ss ts : List (Seen Written)) → flat key_cmp ss ≡ flat key_cmp ts → cum key_cmp ss ≡ cum key_cmp ts
     → report_order key_cmp sort ss ≡ report_order key_cmp sort ts
 same_order sorts.Flat ss ts flats cums = λ i. then_cmp (by_size (flats i)) (then_cmp (by_size (cums i)) key_cmp)
 same_order sorts.Cum ss ts flats cums = λ i. then_cmp (by_size (cums i)) (then_cmp (by_size (flats i)) key_cmp)

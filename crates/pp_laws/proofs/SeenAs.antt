@@ -42,7 +42,7 @@ use Rattle.pp_laws.proofs.Tagging.{tags_told, tags_is, labels_tell, TellsText}
 use Rattle.pp_laws.proofs.Telling.{told_from, told_counted, placed, counted_told, frames_told, located_by}
 
 -- a key doesn't tell more of an address than its grain does
-key_by : (grain : Grain) (showcolumns : Bool) (w : Written) → key_texts grain showcolumns w ≡ key_texts grain showcolumns (located_by grain w)
+pub key_by : (grain : Grain) (showcolumns : Bool) (w : Written) → key_texts grain showcolumns w ≡ key_texts grain showcolumns (located_by grain w)
 key_by Functions showcolumns w = refl
 key_by FileFunctions showcolumns w = refl
 key_by Files showcolumns w = refl

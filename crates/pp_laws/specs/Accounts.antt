@@ -14,11 +14,11 @@ use Rattle.pp_account.specs.Nodes.{keys_portion, light_keys, keys_beyond}
 use Rattle.pp_account.specs.Portions.{portion_of, dropped_samples, bare_samples}
 
 -- what portions come to together
-abbrev pub together : List Portion → Portion
-together [] = record { count = 0; value = pos 0 }
-together (portion ∷ portions) = record {
-  count = portion.count + (together portions).count;
-  value = portion.value +ℤ (together portions).value;
+abbrev pub portion_sum : List Portion → Portion
+portion_sum [] = record { count = 0; value = pos 0 }
+portion_sum (portion ∷ portions) = record {
+  count = portion.count + (portion_sum portions).count;
+  value = portion.value +ℤ (portion_sum portions).value;
 }
 
 -- The samples that each filter is the first to drop, and those that are left, add up to all samples.
@@ -26,7 +26,7 @@ abbrev pub SamplesAddUp : Type 0
 SamplesAddUp =
     (p : Profile) (f : Finders) (config : Config) (column : Option ℕ)
     → portion_of config.presentation column p.sample
-    ≡ together (map (λ slot. portion_of config.presentation column
+    ≡ portion_sum (map (λ slot. portion_of config.presentation column
     (dropped_samples p f config.filtering slot p.sample)) dropping
     ++ portion_of config.presentation column (filtered_samples p f config.filtering p.sample) ∷ [])
 
@@ -42,7 +42,7 @@ abbrev pub NodesAddUp : Type 0
 NodesAddUp =
     (p : Profile) (f : Finders) (config : Config) (column : Option ℕ) (limit : ℕ)
     → keys_portion p f config column (all_report_keys p f config column)
-    ≡ together (keys_portion p f config column (light_keys p f config column)
+    ≡ portion_sum (keys_portion p f config column (light_keys p f config column)
     ∷ keys_portion p f config column (keys_beyond p f config column limit)
     ∷ keys_portion p f config column (report_keys p f config column limit) ∷ [])
 

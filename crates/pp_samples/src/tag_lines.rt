@@ -14,7 +14,7 @@ ghost use Rattle.pp_samples.specs.Tables.{Event, AreKeys, IsTableOf, events_from
 ghost use Rattle.pp_samples.specs.Places.{IsEven, EachEven, AreEven};
 ghost use Rattle.pp_samples.specs.Ranked.{line_entry, line_key, event_entry, table_tags, no_tag, entry_cmp, line_key_cmp, IsKeyLine, entry_line};
 
-use crate::key_table::KeyTable;
+use crate::key_table::TagKeyTable;
 use crate::label_lines::put_own_value;
 use crate::tag_counts::count_tags;
 use crate::tag_name::{TagName, tag_order};
@@ -58,7 +58,7 @@ pub fn write_tags(
 }
 
 // The keys in their order, each with its tags.
-fn put_keys(alloc: Global, unit: &Unit, keys: &KeyTable, out: &mut Text) -> Result<(), Memory>
+fn put_keys(alloc: Global, unit: &Unit, keys: &TagKeyTable, out: &mut Text) -> Result<(), Memory>
     requires { AreEven keys.now }
     ensures { (samples : List (Seen TagTexts)) → AreKeys (events_from 0 samples) keys.now →
         IfOk result (λ _. out.new ≡ out.old

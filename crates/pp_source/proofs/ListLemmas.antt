@@ -17,7 +17,7 @@ use Rattle.pp_units.specs.Head.{Facts}
 use Rattle.pp_count.specs.Sums.{Seen}
 use Rattle.pp_source.specs.declared.lines.FoundLine.{FoundLine}
 use Rattle.pp_source.specs.declared.refusal.ListRefusal.{ListRefusal}
-use Rattle.pp_source.specs.declared.source.Source.{Source}
+use Rattle.pp_source.specs.declared.source.FileSource.{FileSource}
 use Rattle.pp_source.specs.Ledgers.{lines_texts}
 use Rattle.pp_source.specs.Listing.{added_report, list_found, list_lines, with_report}
 use Rattle.pp_source.specs.Routines.{found_lines, runs}
@@ -30,7 +30,7 @@ pub left_after : (lines : List FoundLine) (start : ℕ) (first rest left : List 
 left_after lines start first rest left lent parts = sym (drop-drop (length first) start lines) ∙ ap (drop (length first)) (sym lent ∙ parts) ∙ drop-append_seam first rest
 
 -- one more routine
-pub routine_goes : (samples : List (Seen Written)) (h : Facts) (source : List ℕ → Source) (same : Written → Written → Bool) (lines first rest : List Written) (whole before out new : List ℕ)
+pub routine_goes : (samples : List (Seen Written)) (h : Facts) (source : List ℕ → FileSource) (same : Written → Written → Bool) (lines first rest : List Written) (whole before out new : List ℕ)
     → runs same lines ≡ first ∷ runs same rest → new ≡ out ++ routine_text samples h (source (file_of first)) first
     → out ++ flat_map (λ ls. routine_text samples h (source (file_of ls)) ls) (runs same lines) ≡ before ++ whole
     → new ++ flat_map (λ ls. routine_text samples h (source (file_of ls)) ls) (runs same rest) ≡ before ++ whole

@@ -13,8 +13,8 @@ use Rattle.pp_count.specs.Sums.{Seen}
 use Rattle.pp_count.specs.Counted.{has_own_match, report_frames}
 use Rattle.pp_source.specs.declared.refusal.ListRefusal.{ListRefusal}
 use Rattle.pp_source.specs.declared.refusal.ListRefusal.TheVariants as refusals
-use Rattle.pp_source.specs.declared.source.Source.{Source}
-use Rattle.pp_source.specs.declared.source.Source.TheVariants.{NoName, NotFound, TooLong, Whole}
+use Rattle.pp_source.specs.declared.source.FileSource.{FileSource}
+use Rattle.pp_source.specs.declared.source.FileSource.TheVariants.{NoName, NotFound, TooLong, Whole}
 use Rattle.pp_source.specs.declared.source.TheConstants.{SOURCE_LIMIT}
 use Rattle.pp_source.specs.Files.{files_of_lines, source_at}
 use Rattle.pp_source.specs.Paths.{paths_to_try}
@@ -22,31 +22,31 @@ use Rattle.pp_source.specs.Routines.{found_lines}
 use Rattle.pp_source.specs.SourceText.{lines_text}
 
 -- the source that a read has found, if any
-abbrev pub source_found : FileContent → Option Source
+abbrev pub source_found : FileContent → Option FileSource
 source_found contents.Missing = None
 source_found contents.TooLong = Some TooLong
 source_found (contents.Whole bytes) = Some (Whole bytes)
 
 -- what was found, and else what is done next
-abbrev pub or_next : Script Source → Option Source → Script Source
+abbrev pub or_next : Script FileSource → Option FileSource → Script FileSource
 or_next next (Some source) = Give source
 or_next next None = next
 
 -- Reads the first of these paths at which there is a file.
-unfoldable pub first_present : List (List ℕ) → Script Source
+unfoldable pub first_present : List (List ℕ) → Script FileSource
 first_present [] = Give NotFound
 first_present (path ∷ paths) = do
   content ← read_file path SOURCE_LIMIT
   or_next (first_present paths) (source_found content)
 
 -- Looks for the source of a file text; nothing is read for an empty one.
-unfoldable pub source_of : Environment → List ℕ → Script Source
+unfoldable pub source_of : Environment → List ℕ → Script FileSource
 source_of environment [] = Give NoName
 source_of environment (b ∷ file) =
     first_present (paths_to_try environment.source_path environment.trim_path (b ∷ file))
 
 -- Reads the sources of these files, one after the other, behind those that were read.
-unfoldable pub read_sources : Environment → List Source → List (List ℕ) → Script (List Source)
+unfoldable pub read_sources : Environment → List FileSource → List (List ℕ) → Script (List FileSource)
 read_sources environment sources [] = Give sources
 read_sources environment sources (file ∷ files) = do
   source ← source_of environment file

@@ -2,14 +2,14 @@
 ghost use Rattle.std.specs.Prelude.{◌≡◌, [], map, IfOk};
 ghost use Rattle.std.specs.Option.{option_map, unwrap_or};
 ghost use Rattle.pp_desk.specs.Went.{Went};
-ghost use Rattle.pp_source.specs.declared.source.Source.TheVariants as sources;
+ghost use Rattle.pp_source.specs.declared.source.FileSource.TheVariants as sources;
 ghost use Rattle.pp_source.specs.Files.{files_of_lines, source_in};
 ghost use Rattle.pp_source.specs.Ledgers.{lines_texts};
 ghost use Rattle.pp_source.specs.Listing.{read_sources};
 
 use crate::lines::FoundLine;
 use crate::looking::source_of;
-use crate::source::Source;
+use crate::source::FileSource;
 use crate::split::SplitSource;
 use indexmap::IndexSet;
 use pp_base::{List, Memory};
@@ -60,7 +60,7 @@ pub fn read_sources<D: Desk>(
     environment: &Environment,
     files: &[&[u8]],
     desk: &mut D,
-) -> Result<List<Source>, Stop>
+) -> Result<List<FileSource>, Stop>
     ensures { Went (D.world desk.old) (D.world desk.new)
         (read_sources environment.now [] (map (λ f. f.now) files.now)) result }
 {

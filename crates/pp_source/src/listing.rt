@@ -18,7 +18,7 @@ use crate::lines::{FoundLine, found_lines};
 use crate::refusal::ListRefusal;
 use crate::routine::write_routines;
 use crate::rows::Listing;
-use crate::source::Source;
+use crate::source::FileSource;
 use crate::split::split_sources;
 use indexmap::IndexSet;
 use pp_base::{Memory, Text};
@@ -148,7 +148,7 @@ fn text_of_files<'a>(
     alloc: Global,
     listing: &Listing<'_>,
     files: IndexSet<&'a [u8], HashKeys>,
-    sources: &[Source],
+    sources: &[FileSource],
     lines: &[FoundLine<'a>],
 ) -> Result<Text, Memory>
     requires { All (IsLineIn listing.now) lines.now }

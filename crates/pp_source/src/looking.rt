@@ -4,7 +4,7 @@ ghost use Rattle.pp_desk.specs.Went.{Went};
 ghost use Rattle.pp_source.specs.Listing.{first_present, source_found, source_of};
 
 use crate::paths::paths_to_try;
-use crate::source::{SOURCE_LIMIT, Source};
+use crate::source::{FileSource, SOURCE_LIMIT};
 use pp_base::Text;
 use pp_desk::{Desk, FileContent, Stop};
 use pp_model::Environment;
@@ -18,12 +18,12 @@ pub fn source_of<D: Desk>(
     environment: &Environment,
     file: &[u8],
     desk: &mut D,
-) -> Result<Source, Stop>
+) -> Result<FileSource, Stop>
     ensures { Went (D.world desk.old) (D.world desk.new)
         (source_of environment.now file.now) result }
 {
     if file.is_empty() {
-        return Ok(Source::NoName);
+        return Ok(FileSource::NoName);
     }
     let source_path = environment.source_path.as_slice();
     let paths = paths_to_try(alloc, source_path, environment.trim_path.as_slice(), file)?;
@@ -31,7 +31,7 @@ pub fn source_of<D: Desk>(
 }
 
 // Reads the first of the paths at which there is a file.
-fn first_present<D: Desk>(paths: &[Text], desk: &mut D) -> Result<Source, Stop>
+fn first_present<D: Desk>(paths: &[Text], desk: &mut D) -> Result<FileSource, Stop>
     ensures { Went (D.world desk.old) (D.world desk.new) (first_present paths.now) result }
 {
     for path in paths {
@@ -40,16 +40,16 @@ fn first_present<D: Desk>(paths: &[Text], desk: &mut D) -> Result<Source, Stop>
             return Ok(source);
         }
     }
-    Ok(Source::NotFound)
+    Ok(FileSource::NotFound)
 }
 
 // The source that a read has found, if any.
-fn source_in(content: FileContent) -> Option<Source>
+fn source_in(content: FileContent) -> Option<FileSource>
     ensures { result ≡ source_found content }
 {
     match content {
         FileContent::Missing => None,
-        FileContent::TooLong => Some(Source::TooLong),
-        FileContent::Whole(bytes) => Some(Source::Whole(bytes)),
+        FileContent::TooLong => Some(FileSource::TooLong),
+        FileContent::Whole(bytes) => Some(FileSource::Whole(bytes)),
     }
 }

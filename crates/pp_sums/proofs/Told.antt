@@ -7,8 +7,6 @@ use Rattle.std.proofs.Math.IntN.{+ℤ_idr}
 use Rattle.std.proofs.lemmas.List.Elements.{recursion_from_All}
 use Rattle.pp_base.proofs.Lists.{all_by}
 use Rattle.pp_model.specs.declared.config.Config.{Config}
-use Rattle.pp_model.specs.declared.grouping.Grain.{Grain}
-use Rattle.pp_model.specs.declared.grouping.Grain.TheVariants.{Functions, FileFunctions, Files, Lines, Addresses}
 use Rattle.pp_model.specs.declared.frame.Frame.{Frame}
 use Rattle.pp_model.specs.declared.profile.Profile.{Profile}
 use Rattle.pp_model.specs.declared.profile.Sample.{Sample}
@@ -37,7 +35,7 @@ use Rattle.pp_laws.proofs.Grouped.{told_in}
 use Rattle.pp_laws.proofs.IntSums.{sum_each}
 use Rattle.pp_laws.proofs.Multiplying.{by_one}
 use Rattle.pp_laws.proofs.Sampling.{part, sum_seen}
-use Rattle.pp_laws.proofs.SeenAs.{value_told, value_same, sees, shows, passes}
+use Rattle.pp_laws.proofs.SeenAs.{key_by, passes, sees, shows, value_same, value_told}
 use Rattle.pp_laws.proofs.Shards.{says, sum_total, sum_of_sources, figure_said}
 use Rattle.pp_laws.proofs.Stages.{filtered-map}
 use Rattle.pp_laws.proofs.Tagging.{tags_told, tags_is, labels_tell, TellsText}
@@ -51,14 +49,6 @@ pub record IsPlain (q : Profile) : Type 0 where
   pub starts : AllByRecursion (λ m. m.start < 2 ^ 64) (all_mappings (q ∷ []))
   pub stay : (id : ℕ) → option_map (first_alike (all_mappings (q ∷ []))) (mapping_found q id) ≡ mapping_found q id
   pub small : AllByRecursion (λ l. l.address < 2 ^ 64) q.location
-
--- a key doesn't tell more of an address than its grain does
-key_by : (grain : Grain) (showcolumns : Bool) (w : Written) → key_texts grain showcolumns w ≡ key_texts grain showcolumns (located_by grain w)
-key_by Functions showcolumns w = refl
-key_by FileFunctions showcolumns w = refl
-key_by Files showcolumns w = refl
-key_by Lines showcolumns w = refl
-key_by Addresses showcolumns w = refl
 
 module _ (q : Profile) (f : Finders) (config : Config) where
   keys_mapped : (stack : List Frame) → map (key_of_frame q config.grouping) stack ≡ map (key_texts config.grouping.grain config.grouping.showcolumns) (map (λ x. located_by config.grouping.grain (written q x)) stack)

@@ -10,7 +10,7 @@ ghost use Rattle.pp_graph.specs.Trimmed.{IsRankedOf};
 ghost use Rattle.pp_graph.specs.KeyRows.{CanShow};
 ghost use Rattle.pp_top.specs.Top.{top_summary, ranked_text, top_text};
 
-use crate::rows::{Table, put_rows};
+use crate::rows::{TopTable, put_rows};
 use pp_base::{Memory, Text};
 use pp_count::Counted;
 use pp_graph::Ranked;
@@ -58,7 +58,7 @@ fn put_top(
     put_summary(t, head, out)?;
     out.extend(HEADING)?;
     let sums = &c.sums;
-    put_rows(alloc, &Table { l, sums, head }, t.order.as_slice(), out)
+    put_rows(alloc, &TopTable { l, sums, head }, t.order.as_slice(), out)
 }
 
 fn put_summary(t: &Ranked, head: &Head, out: &mut Text) -> Result<(), Memory>

@@ -3,7 +3,7 @@ use Rattle.std.specs.Prelude.{◌≡◌, ℕ, pos, length, Bool, true, false, no
 use Rattle.std.specs.List.{list_any}
 use Rattle.std.specs.Option.{option_map_or}
 use Rattle.std.specs.Ordering.{eq_by_cmp, int_eq}
-use Rattle.pp_tree.specs.declared.own.Asked.{Asked}
+use Rattle.pp_tree.specs.declared.own.PeekScope.{PeekScope}
 use Rattle.pp_model.specs.Conditions.{HasVerdicts}
 use Rattle.pp_model.specs.declared.config.Config.{Config}
 use Rattle.pp_model.specs.declared.grouping.Grain.{Grain}
@@ -64,6 +64,6 @@ has_own_number p f config column find k n =
     option_map_or (has_own_sample p f config column find k) (slice_get p.sample n) false
 
 -- The verdicts are those of the profile, with one of the own pattern for each text.
-pub record CanAsk (asked : Asked) : Type 0 where
+pub record CanAsk (asked : PeekScope) : Type 0 where
   pub verdicts : HasVerdicts asked.l.now.profile asked.v.now
   pub fits : length asked.own.now ≡ length asked.l.now.profile.text

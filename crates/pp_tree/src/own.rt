@@ -22,9 +22,9 @@ use pp_model::{Config, Frame, Loaded, Stack, Verdicts, function_of};
 use pp_stack::{VerdictTables, filter_into};
 use std::alloc::Global;
 
-/// What samples are asked by.
+/// How samples are seen, with the verdicts of the own pattern of a report.
 #[derive(Clone, Copy)]
-pub struct Asked<'a> {
+pub struct PeekScope<'a> {
     /// The profile.
     pub l: &'a Loaded,
     /// What the patterns of the report find of its texts.
@@ -53,7 +53,7 @@ pub fn found_by_frames(
 {
     let (l, v, counted) = (survey.l, survey.v, survey.counted);
     let _compact = l.profile.get();
-    let asked = Asked {
+    let asked = PeekScope {
         l,
         v,
         own,
@@ -75,7 +75,7 @@ pub fn found_by_frames(
 fn own_keys(
     alloc: Global,
     hash_keys: HashKeys,
-    asked: &Asked<'_>,
+    asked: &PeekScope<'_>,
     tables: &VerdictTables,
     kept: &[u32],
 ) -> Result<IndexSet<Key, HashKeys>, Memory>
@@ -98,7 +98,7 @@ fn own_keys(
 
 // Adds the keys of the sample with the number, if it is there. The stack is room for its frames.
 fn add_sample(
-    asked: &Asked<'_>,
+    asked: &PeekScope<'_>,
     tables: &VerdictTables,
     number: u32,
     stack: &mut Stack,
@@ -134,7 +134,7 @@ fn add_sample(
 }
 
 fn add_stack(
-    asked: &Asked<'_>,
+    asked: &PeekScope<'_>,
     stack: &Stack,
     keys: &mut IndexSet<Key, HashKeys>,
 ) -> Result<(), Memory>
@@ -155,7 +155,7 @@ fn add_stack(
 
 // Adds the key of the frame at the place, if it counts and the pattern finds it.
 fn add_frame(
-    asked: &Asked<'_>,
+    asked: &PeekScope<'_>,
     stack: &Stack,
     place: usize,
     keys: &mut IndexSet<Key, HashKeys>,
@@ -190,7 +190,7 @@ fn add_frame(
 }
 
 // Whether the pattern finds the frame's function.
-fn is_own(asked: &Asked<'_>, frame: &Frame) -> bool
+fn is_own(asked: &PeekScope<'_>, frame: &Frame) -> bool
     requires can { CanAsk asked.now }
     requires frame { IsFrameOf asked.now.l.now.profile frame.now }
     ensures { (find : Finder) → AreVerdicts asked.now.l.now.profile asked.now.own.now find →

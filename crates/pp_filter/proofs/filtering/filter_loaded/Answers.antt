@@ -3,7 +3,7 @@ use Rattle.std.proofs.lemmas.Result.{err_from_is_err_and}
 use Rattle.pp_desk.proofs.Going.{wants}
 use Rattle.pp_desk.proofs.AskingLemmas.{asking_second, asking_gives}
 use Rattle.pp_model.specs.Rules.{IsCompact}
-use Rattle.pp_filter.specs.Asked.{filter_loaded, verdicts}
+use Rattle.pp_filter.specs.Asked.{filter_loaded, ask_option_patterns}
 use Rattle.pp_filter.specs.Filtered.{own_finders, saved_of}
 use Rattle.pp_filter.proofs.FilterLemmas.{filter_holds, can_save}
 use Rattle.pp_filter.proofs.filtering.filter_loaded.Goals as goal
@@ -26,7 +26,7 @@ returns-clause-went g c =
     let l = c.args.l.now in
     let config = c.args.config.now in
     let is : c.in_ok-saved.saved ≡ saved_of finds l config.filtering = returns-clause-saved g c in
-    asking_second _ _ (verdicts finds l config.filtering) _ _ c.in_ok-v.v _ c.in_ok-v.ensures.went (rw is (asking_gives _ (saved_of finds l config.filtering)))
+    asking_second _ _ (ask_option_patterns finds l config.filtering) _ _ c.in_ok-v.v _ c.in_ok-v.ensures.went (rw is (asking_gives _ (saved_of finds l config.filtering)))
 
 -- the patterns were asked, and then memory was wanting
 pub returns-in_err-saved-clause-went : goal.returns-in_err-saved-clause-went
@@ -34,4 +34,4 @@ unfolding filter_loaded
 returns-in_err-saved-clause-went g c =
     let p = err_from_is_err_and c.from_residual-in_err-saved.result c.from_residual-in_err-saved.ensures.1 in
     rw (p.1, p.2)
-    (asking_second _ _ (verdicts g.D.Desk.finds c.args.l.now c.args.config.now.filtering) _ _ c.in_ok-v.v _ c.in_ok-v.ensures.went (wants _ _))
+    (asking_second _ _ (ask_option_patterns g.D.Desk.finds c.args.l.now c.args.config.now.filtering) _ _ c.in_ok-v.v _ c.in_ok-v.ensures.went (wants _ _))

@@ -3,7 +3,7 @@ use Rattle.pp_steal.proofs.Ends.{next_is, next_gone}
 use Rattle.pp_steal.proofs.Making.{as_many, lane_home, row_last, lanes_more, ready_at}
 use Rattle.pp_steal.specs.Lanes.{homes_of, AreFresh, make_of}
 use Rattle.pp_steal.specs.Room.{RoomFor}
-use Rattle.pp_steal.proofs.make.Table.into_lanes.Goals as goal
+use Rattle.pp_steal.proofs.make.DealTable.into_lanes.Goals as goal
 
 pub new-requires-clause-few : goal.new-requires-clause-few
 new-requires-clause-few c =

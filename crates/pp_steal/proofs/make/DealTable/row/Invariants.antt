@@ -1,6 +1,6 @@
 use Rattle.std.proofs.Common.{◌≡◌, length, take, ◌≤◌, vec_capacity}
 use Rattle.pp_steal.specs.Lanes.{AreOwnersReady, AreMarked, AreFresh, homes_of, homes_at}
-use Rattle.pp_steal.proofs.make.Table.row.Given as goal
+use Rattle.pp_steal.proofs.make.DealTable.row.Given as goal
 
 abbrev pub invariant-loop-lane : goal.invariant-loop-lane
 invariant-loop-lane l = record {

@@ -1,7 +1,7 @@
 use Rattle.std.proofs.Common.{arith, ◌<◌, ◌∙◌, length, length-set}
 use Rattle.pp_steal.proofs.Making.{dealt_under, deal_more}
 use Rattle.pp_steal.proofs.Closing.{lane_below}
-use Rattle.pp_steal.proofs.make.Table.deal_out.Goals as goal
+use Rattle.pp_steal.proofs.make.DealTable.deal_out.Goals as goal
 
 pub deal_one-requires-clause-above : goal.deal_one-requires-clause-above
 deal_one-requires-clause-above c =

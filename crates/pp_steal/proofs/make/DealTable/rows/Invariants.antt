@@ -1,6 +1,6 @@
 use Rattle.std.proofs.Common.{◌≡◌, ◌<◌, length, ◌≤◌, vec_capacity}
 use Rattle.pp_steal.specs.Lanes.{AreOwnersReady, AreMarked, AreNewRows, homes_of}
-use Rattle.pp_steal.proofs.make.Table.rows.Given as goal
+use Rattle.pp_steal.proofs.make.DealTable.rows.Given as goal
 
 abbrev pub invariant-loop-lane : goal.invariant-loop-lane
 invariant-loop-lane l = record {

@@ -1,6 +1,6 @@
 use Rattle.std.proofs.Common.{ap, arith, ◌∙◌, ◌<◌, length, length-set, length-append, [], ◌∷◌}
 use Rattle.pp_steal.proofs.Making.{seat_keeps, seat_homes, chairs_more}
-use Rattle.pp_steal.proofs.make.Table.row.Goals as goal
+use Rattle.pp_steal.proofs.make.DealTable.row.Goals as goal
 
 -- one chair more, at the next deque, whose owner is then marked
 pub loop-lane-preserved : goal.loop-lane-preserved

@@ -1,6 +1,6 @@
 use Rattle.std.proofs.Common.{◌≡◌, length}
 use Rattle.pp_steal.specs.Lanes.{AreDealt}
-use Rattle.pp_steal.proofs.make.Table.deal_out.Given as goal
+use Rattle.pp_steal.proofs.make.DealTable.deal_out.Given as goal
 
 abbrev pub invariant-loop-piece : goal.invariant-loop-piece
 invariant-loop-piece l = record {

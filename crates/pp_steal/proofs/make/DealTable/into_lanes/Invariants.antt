@@ -1,6 +1,6 @@
 use Rattle.std.proofs.Common.{◌≡◌, ◌+◌, length, ◌≤◌, drop, vec_capacity}
 use Rattle.pp_steal.specs.Lanes.{AreNewRows, AreNewLanes, make_of, homes_of}
-use Rattle.pp_steal.proofs.make.Table.into_lanes.Given as goal
+use Rattle.pp_steal.proofs.make.DealTable.into_lanes.Given as goal
 
 abbrev pub invariant-loop-worker : goal.invariant-loop-worker
 invariant-loop-worker l = record {
