@@ -20,8 +20,8 @@ use Rattle.pp_account.specs.Account.{account_text}
 use Rattle.pp_top.specs.Top.{top_text}
 use Rattle.pp_tree.specs.Tree.{tree_text}
 use Rattle.pp_calltree.specs.Text.{calltree_text}
-use Rattle.pp_compare.specs.Changes.{changes_text}
-use Rattle.pp_compare.specs.Compare.{compare_text}
+use Rattle.pp_top.specs.Changes.{changes_text}
+use Rattle.pp_top.specs.Compare.{compare_text}
 use Rattle.pp_export.specs.Folded.{folded_text}
 use Rattle.pp_export.specs.Table.{exact_table}
 use Rattle.pp_tree.specs.Peek.{peek_text}

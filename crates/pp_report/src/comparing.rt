@@ -4,8 +4,8 @@ ghost use Rattle.pp_model.specs.Finders.{Finders};
 ghost use Rattle.pp_units.specs.Head.{facts};
 ghost use Rattle.pp_count.specs.Seeing.{HoldsFilters};
 ghost use Rattle.pp_graph.specs.Trim.{node_limit};
-ghost use Rattle.pp_compare.specs.Changes.{changes_text};
-ghost use Rattle.pp_compare.specs.Compare.{compare_text};
+ghost use Rattle.pp_top.specs.Changes.{changes_text};
+ghost use Rattle.pp_top.specs.Compare.{compare_text};
 ghost use Rattle.pp_report.specs.Heads.{unit_text};
 
 use crate::host::Host;
@@ -13,9 +13,9 @@ use crate::shows::unit_text;
 use crate::subject::Subject;
 use crate::texts::limit_of;
 use pp_base::{Gate, Memory, Text};
-use pp_compare::{write_changes, write_compare};
 use pp_count::base_sums;
 use pp_graph::{rank, rank_all};
+use pp_top::{write_changes, write_compare};
 use std::thread::Threads;
 
 /// The compare report, whose keys have no limit of their own.

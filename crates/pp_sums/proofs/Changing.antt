@@ -18,8 +18,8 @@ use Rattle.pp_count.specs.Seeing.{filtered_stack, seen_with, seen_samples}
 use Rattle.pp_count.specs.Sums.{Seen, sum_where}
 use Rattle.pp_graph.specs.Trim.{all_report_keys}
 use Rattle.pp_graph.specs.Trimmed.{int_sum}
-use Rattle.pp_compare.specs.Changes.{change_line, changes_heading}
-use Rattle.pp_compare.specs.Compare.{ComparedRow, compared_row, figure}
+use Rattle.pp_top.specs.Changes.{change_line, changes_heading}
+use Rattle.pp_top.specs.Compare.{ComparedRow, compared_row, figure}
 use Rattle.pp_laws.specs.Figures.{has_frames}
 use Rattle.pp_laws.proofs.AddingUp.{all_counted}
 use Rattle.pp_sums.specs.Changes.{ChangesAccount, ChangesAddUp, changed_rows, lacks_frames}

@@ -9,8 +9,8 @@ use Rattle.pp_count.specs.Sums.{sum_where}
 use Rattle.pp_count.specs.Seeing.{seen_samples}
 use Rattle.pp_graph.specs.Trim.{all_report_keys}
 use Rattle.pp_graph.specs.Trimmed.{int_sum}
-use Rattle.pp_compare.specs.Changes.{change_line, changes_heading, changes_text}
-use Rattle.pp_compare.specs.Compare.{ComparedRow, compared_row, whole_row}
+use Rattle.pp_top.specs.Changes.{change_line, changes_heading, changes_text}
+use Rattle.pp_top.specs.Compare.{ComparedRow, compared_row, whole_row}
 use Rattle.pp_laws.specs.Figures.{has_frames}
 
 -- no frame of the sample counts
