@@ -21,11 +21,11 @@ loop-repeat-preserved c = λ k d below.
     let repeats : List Repeat = c.args.repeats.now in
     let index : ℕ = c.loop-repeat.repeat-index in
     let r : Repeat = get_or repeats index none in
-    let x : Sample = c.index-samples-first.result in
-    let y : Sample = c.index-samples-later.result in
+    let x : Sample = c.index-samples-repeat.result in
+    let y : Sample = c.index-samples-repeat-in-loop-repeat.result in
     let pair : IsPair (length samples) r = c.requires index none c.loop-repeat-test.true in
-    let first : get_or samples r.first no_sample ≡ x = get_or_default samples r.first no_sample x (omega (arith, pair.earlier, pair.within)) ∙ sym c.index-samples-first.is in
-    let later : get_or samples r.later no_sample ≡ y = get_or_default samples r.later no_sample y pair.within ∙ sym c.index-samples-later.is in
+    let first : get_or samples r.first no_sample ≡ x = get_or_default samples r.first no_sample x (omega (arith, pair.earlier, pair.within)) ∙ sym c.index-samples-repeat.is in
+    let later : get_or samples r.later no_sample ≡ y = get_or_default samples r.later no_sample y pair.within ∙ sym c.index-samples-repeat-in-loop-repeat.is in
     let equal : AreEqual by samples r =
     stack_ties by (get_or samples r.first no_sample) (get_or samples r.later no_sample)
     ∙ (λ j. is_eq (stack_cmp by (first j) (later j))) ∙ ap is_eq (sym c.stack_order.ensures) ∙ sym c.is_eq.ensures ∙ c.if-not-is_eq.false in

@@ -13,7 +13,7 @@ use Rattle.pp_share.proofs.repeats.repeats_of_class.Goals as goal
 pub are_equal-requires : goal.are_equal-requires
 are_equal-requires c =
     subst (All (IsPair (length c.args.samples.now))) (sym c.deref.ensures.value)
-    (pairs_found (new_ids c.args.by.now) c.args.samples.now c.args.hashes.now c.args.class c.requires c.in_ok-placed.placed.items c.sort_out-repeats.new.placed.items c.in_ok-placed.ensures
+    (pairs_found (new_ids c.args.by.now) c.args.samples.now c.args.hashes.now c.args.class c.requires c.in_ok-placed.placed.items c.sort_out.new.placed.items c.in_ok-placed.ensures
     c.in_ok-repeats.ensures.same c.in_ok-repeats.repeats.items c.in_ok-repeats.ensures.found)
 
 -- the samples of each pair of one hash are equal
@@ -21,7 +21,7 @@ pub returns-then-are_equal : goal.returns-then-are_equal
 returns-then-are_equal c =
     let by = new_ids c.args.by.now in
     let samples = c.args.samples.now in
-    equal_found by samples c.args.hashes.now c.args.class c.requires c.in_ok-placed.placed.items c.sort_out-repeats.new.placed.items c.in_ok-placed.ensures c.in_ok-repeats.ensures.same
+    equal_found by samples c.args.hashes.now c.args.class c.requires c.in_ok-placed.placed.items c.sort_out.new.placed.items c.in_ok-placed.ensures c.in_ok-repeats.ensures.same
     c.in_ok-repeats.repeats.items c.in_ok-repeats.ensures.found
     (subst (All (AreEqual by samples)) c.deref.ensures.value (OnTrue_at c.if-are_equal.true c.are_equal.ensures))
 
@@ -29,10 +29,10 @@ returns-then-are_equal c =
 pub returns : goal.returns
 returns c =
     let first = c.in_ok-placed.placed.items in
-    let by_hash = c.sort_out-repeats.new.placed.items in
-    let placed = c.sort_out.new.placed.items in
-    IfOk-weaker c.sort_out.result _ _
+    let by_hash = c.sort_out.new.placed.items in
+    let placed = c.sort_out-2.new.placed.items in
+    IfOk-weaker c.sort_out-2.result _ _
     (λ repeats found.
     class_found (new_ids c.args.by.now) c.args.samples.now c.args.hashes.now c.args.class c.requires first placed c.in_ok-placed.ensures
-    (IsPermutation-trans first by_hash placed c.in_ok-repeats.ensures.same c.sort_out.ensures.same) repeats.items found)
-    c.sort_out.ensures.found
+    (IsPermutation-trans first by_hash placed c.in_ok-repeats.ensures.same c.sort_out-2.ensures.same) repeats.items found)
+    c.sort_out-2.ensures.found
