@@ -6,11 +6,11 @@ use Rattle.pp_samples.specs.TagLines.{TagTexts}
 -- what the name says
 abbrev pub name_texts : TagName → TagTexts
 name_texts name = record {
-  key = name.key.items;
+  key = name.key.now;
   is_number = name.is_number;
-  text = name.text.items;
+  text = name.text.now;
   num = name.num;
-  unit = name.unit.items;
+  unit = name.unit.now;
 }
 
 -- a tag that stands for its key
