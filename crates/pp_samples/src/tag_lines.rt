@@ -18,7 +18,7 @@ ghost use Rattle.pp_samples.specs.Ranked.{line_entry, line_key, event_entry, tab
 use crate::key_table::KeyTable;
 use crate::label_lines::put_own_value;
 use crate::tag_counts::count_tags;
-use crate::tag_name::{TagName, tag_order};
+use crate::tag_name::{TagName, tag_value_order};
 use crate::tag_table::{TagSum, TagTable};
 use pp_base::{List, Memory, Text};
 use pp_count::{Counted, Survey};
@@ -269,5 +269,5 @@ fn line_order(a: &TagLine, b: &TagLine) -> Ordering
     if sums.is_ne() {
         return sums;
     }
-    tag_order(&a.name, &b.name)
+    tag_value_order(&a.name, &b.name)
 }

@@ -1,8 +1,8 @@
 //! What a label says, told apart by texts.
 ghost use Rattle.std.specs.Prelude.{◌≡◌, [], pos, true, false};
 ghost use Rattle.pp_tags.specs.Labels.{key_text};
-ghost use Rattle.pp_samples.specs.TagLines.{tag_texts, shown_tag_cmp};
-ghost use Rattle.pp_samples.specs.Names.{name_texts, key_tag};
+ghost use Rattle.pp_samples.specs.TagLines.{tag_texts};
+ghost use Rattle.pp_samples.specs.Names.{name_texts, key_tag, tag_value_cmp};
 
 use pp_model::{Label, Profile, text_of};
 use pp_tags::{has_text, number_unit};
@@ -66,14 +66,21 @@ pub fn key_name<'a>(p: &'a Profile, label: &Label) -> TagName<'a>
     text_name(text_of(p, label.key), b"")
 }
 
-/// By key, texts before numbers, by text, number and unit.
-pub fn tag_order(a: &TagName, b: &TagName) -> Ordering
-    ensures { result ≡ shown_tag_cmp (name_texts a.now) (name_texts b.now) }
+/// The order of the tags of a key: texts before numbers, by text, number and unit.
+pub fn tag_value_order(a: &TagName, b: &TagName) -> Ordering
+    ensures { result ≡ tag_value_cmp (name_texts a.now) (name_texts b.now) }
 {
-    a.key
-        .cmp(b.key)
-        .then(a.is_number.cmp(&b.is_number))
-        .then(a.text.cmp(b.text))
-        .then(a.num.cmp(&b.num))
-        .then(a.unit.cmp(b.unit))
+    let kinds = a.is_number.cmp(&b.is_number);
+    if kinds.is_ne() {
+        return kinds;
+    }
+    let texts = a.text.cmp(b.text);
+    if texts.is_ne() {
+        return texts;
+    }
+    let numbers = a.num.cmp(&b.num);
+    if numbers.is_ne() {
+        return numbers;
+    }
+    a.unit.cmp(b.unit)
 }
