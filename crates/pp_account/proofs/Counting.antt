@@ -108,11 +108,11 @@ module _ (p : Profile) (f : Finders) (config : Config) (column : Option ℕ) whe
       → portions_of p f config column (ss ++ s ∷ [])
       ≡ with_sample_value (first_filter p f config.filtering s) (is_bare p f config column s) (selected column config.presentation.divide_by s) (portions_of p f config column ss)
   portions_push ss s few fits =
-      let at = λ (slot : Slot). portion_more config column ss s few fits (λ x. is_filter slot (first_filter p f config.filtering x)) in
-      let left = portion_more config column ss s few fits (λ x. is_some (filtered_stack p f config.filtering x))
+      let at = λ (slot : Slot). portion_more config.presentation column ss s few fits (λ x. is_filter slot (first_filter p f config.filtering x)) in
+      let left = portion_more config.presentation column ss s few fits (λ x. is_some (filtered_stack p f config.filtering x))
       ∙ ap (λ b. portion_plus_if b (portions_of p f config column ss).left (selected column config.presentation.divide_by s)) (left_or_dropped p f config.filtering s) in
       (λ i. record {
-        loaded = all_more config column ss s few fits i;
+        loaded = all_more config.presentation column ss s few fits i;
         ignore = at slots.Ignore i;
         focus = at slots.Focus i;
         hide = at slots.Hide i;
@@ -121,7 +121,7 @@ module _ (p : Profile) (f : Finders) (config : Config) (column : Option ℕ) whe
         tagfocus = at slots.TagFocus i;
         tagignore = at slots.TagIgnore i;
         left = left i;
-        bare = portion_more config column ss s few fits (is_bare p f config column) i;
+        bare = portion_more config.presentation column ss s few fits (is_bare p f config column) i;
       })
       ∙ ended (first_filter p f config.filtering s) (is_bare p f config column s) (selected column config.presentation.divide_by s) (portions_of p f config column ss)
 
