@@ -3,11 +3,11 @@ use Rattle.std.proofs.Common.{◌≡◌, Bool, true, false, not, ◌&&◌, ◌||
 use Rattle.std.specs.Prelude.{Option, Some, None, is_some, option_map, filter}
 use Rattle.std.specs.Option.{option_map_or}
 use Rattle.std.proofs.lemmas.Bool.{false≢true}
-use Rattle.pp_model.specs.declared.config.Config.{Config}
 use Rattle.pp_model.specs.declared.profile.Sample.{Sample}
 use Rattle.pp_model.specs.declared.profile.Profile.{Profile}
 use Rattle.pp_model.specs.declared.verdicts.Slot.{Slot}
 use Rattle.pp_model.specs.declared.verdicts.Slot.TheVariants as slots
+use Rattle.pp_model.specs.declared.filtering.Filtering.{Filtering}
 use Rattle.pp_model.specs.Finders.{Finder, Finders}
 use Rattle.pp_model.specs.Frames.{stack_of}
 use Rattle.pp_model.specs.FrameTexts.{Written, written}
@@ -72,15 +72,15 @@ tagged true false frames None is = is
 tagged true false frames (Some slot) is = is
 
 -- The filters leave exactly the samples that none of them is the first to drop.
-pub left_or_dropped : (p : Profile) (f : Finders) (config : Config) (s : Sample) → is_some (filtered_stack p f config s) ≡ not (is_some (first_filter p f config s))
-left_or_dropped p f config s =
-    tagged (selects_or true p (filter_in_force config.tagfocus) f.tagfocus s) (selects_or false p (filter_in_force config.tagignore) f.tagignore s)
+pub left_or_dropped : (p : Profile) (f : Finders) (filtering : Filtering) (s : Sample) → is_some (filtered_stack p f filtering s) ≡ not (is_some (first_filter p f filtering s))
+left_or_dropped p f filtering s =
+    tagged (selects_or true p (filter_in_force filtering.tagfocus) f.tagfocus s) (selects_or false p (filter_in_force filtering.tagignore) f.tagignore s)
     (frames_of_sample p f s) (first_of_stack (written p) f (load_pruned (written p) f (stack_of p s)))
     (stack_left (written p) f (load_pruned (written p) f (stack_of p s)))
 
 -- of a sample that is left there is no such filter
-pub none_if_left : (p : Profile) (f : Finders) (config : Config) (s : Sample) → is_some (filtered_stack p f config s) ≡ true → None ≡ first_filter p f config s
-none_if_left p f config s is = by_case (first_filter p f config s) (sym is ∙ left_or_dropped p f config s) where
+pub none_if_left : (p : Profile) (f : Finders) (filtering : Filtering) (s : Sample) → is_some (filtered_stack p f filtering s) ≡ true → None ≡ first_filter p f filtering s
+none_if_left p f filtering s is = by_case (first_filter p f filtering s) (sym is ∙ left_or_dropped p f filtering s) where
   by_case : (o : Option Slot) → true ≡ not (is_some o) → None ≡ o
   by_case None h = refl
   by_case (Some slot) h = absurd (false≢true (sym h))

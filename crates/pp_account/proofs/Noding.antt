@@ -47,11 +47,11 @@ same_filter t u (x ∷ xs) each = λ i. cond (each x i) (x ∷ same_filter t u x
 -- K1 are the heavy keys of those that occur
 pub candidates_are : (p : Profile) (f : Finders) (config : Config) (column : Option ℕ)
     → candidate_keys p f config column
-    ≡ filter (is_heavy_key key_cmp (total_of p f config column) config.nodefraction.billionths (report_samples p f config column)) (all_report_keys p f config column)
+    ≡ filter (is_heavy_key key_cmp (total_of p f config column) config.presentation.nodefraction.billionths (report_samples p f config column)) (all_report_keys p f config column)
 candidates_are p f config column =
     let samples : List (Seen Written) = report_samples p f config column in
-    each_once-filter (report_total samples config.sort) (report_same samples config.sort)
-    (is_heavy_key key_cmp (total_of p f config column) config.nodefraction.billionths samples) (all_keys samples)
+    each_once-filter (report_total samples config.presentation.sort) (report_same samples config.presentation.sort)
+    (is_heavy_key key_cmp (total_of p f config column) config.presentation.nodefraction.billionths samples) (all_keys samples)
 
 -- parts of numbers have what all of them have
 pub shown_below : (P : ℕ → Type 0) (limit : ℕ) (ns : List ℕ) → All P ns → All P (shown_keys limit ns)
@@ -87,7 +87,7 @@ past_fewer size limit ns = elim (limit == 0) as (λ b. sum_by size (cond b [] (d
   | false ↦ omega (arith, sum_by-take-drop size ns limit)
 ]
 
-module _ (l : Loaded) (v : Verdicts) (config : Config) (column : Option ℕ) (f : Finders) (c : Counted) (counted : IsCountedOf l v config column c) (holds : HoldsFilters l v config f) where
+module _ (l : Loaded) (v : Verdicts) (config : Config) (column : Option ℕ) (f : Finders) (c : Counted) (counted : IsCountedOf l v config column c) (holds : HoldsFilters l v config.filtering f) where
   abbrev samples : List (Seen Written)
   samples = report_samples l.profile f config column
 
@@ -110,25 +110,25 @@ module _ (l : Loaded) (v : Verdicts) (config : Config) (column : Option ℕ) (f 
   }
 
   abbrev heavy : Written → Bool
-  heavy = is_heavy_key key_cmp (total_of l.profile f config column) config.nodefraction.billionths samples
+  heavy = is_heavy_key key_cmp (total_of l.profile f config column) config.presentation.nodefraction.billionths samples
 
-  heavy_is : (n : ℕ) → n < length c.sums.names → is_heavy_number c.total config.nodefraction.billionths c.sums n ≡ heavy (key_at n)
-  heavy_is n within = λ i. is_heavy (counted.total_is f holds i) config.nodefraction.billionths (ap (λ (r : KeyRow). r.cum) (row_of n within) i)
+  heavy_is : (n : ℕ) → n < length c.sums.names → is_heavy_number c.total config.presentation.nodefraction.billionths c.sums n ≡ heavy (key_at n)
+  heavy_is n within = λ i. is_heavy (counted.total_is f holds i) config.presentation.nodefraction.billionths (ap (λ (r : KeyRow). r.cum) (row_of n within) i)
 
   where_are : (wanted : Bool) (ns : List ℕ) → All (λ n. n < length c.sums.names) ns
-      → map key_at (numbers_where c.sums c.total config.nodefraction.billionths wanted ns) ≡ filter (λ k. beq (heavy k) wanted) (map key_at ns)
+      → map key_at (numbers_where c.sums c.total config.presentation.nodefraction.billionths wanted ns) ≡ filter (λ k. beq (heavy k) wanted) (map key_at ns)
   where_are wanted [] below = refl
   where_are wanted (n ∷ ns) below =
       let rest = where_are wanted ns (All-tail (λ m. m < length c.sums.names) n ns below) in
-      let left : List ℕ = numbers_where c.sums c.total config.nodefraction.billionths wanted ns in
+      let left : List ℕ = numbers_where c.sums c.total config.presentation.nodefraction.billionths wanted ns in
       ap (λ b. map key_at (cond (beq b wanted) (n ∷ left) left)) (heavy_is n (All-head (λ m. m < length c.sums.names) n ns below))
       ∙ elim (beq (heavy (key_at n)) wanted) as (λ b. map key_at (cond b (n ∷ left) left) ≡ cond b (key_at n ∷ filter (λ k. beq (heavy k) wanted) (map key_at ns)) (filter (λ k. beq (heavy k) wanted) (map key_at ns))) [
         | true ↦ ap (λ r. key_at n ∷ r) rest
         | false ↦ rest
       ]
 
-  where_below : (wanted : Bool) (ns : List ℕ) → All (λ n. n < length c.sums.names) ns → All (λ n. n < length c.sums.names) (numbers_where c.sums c.total config.nodefraction.billionths wanted ns)
-  where_below wanted ns below = All-filter (is_where c.sums c.total config.nodefraction.billionths wanted) (λ n. n < length c.sums.names) ns below
+  where_below : (wanted : Bool) (ns : List ℕ) → All (λ n. n < length c.sums.names) ns → All (λ n. n < length c.sums.names) (numbers_where c.sums c.total config.presentation.nodefraction.billionths wanted ns)
+  where_below wanted ns below = All-filter (is_where c.sums c.total config.presentation.nodefraction.billionths wanted) (λ n. n < length c.sums.names) ns below
 
   shown_are : (limit : ℕ) (ns : List ℕ) → map key_at (shown_keys limit ns) ≡ shown_keys limit (map key_at ns)
   shown_are limit ns = elim (limit == 0) as (λ b. map key_at (cond b ns (take limit ns)) ≡ cond b (map key_at ns) (take limit (map key_at ns))) [
@@ -143,21 +143,21 @@ module _ (l : Loaded) (v : Verdicts) (config : Config) (column : Option ℕ) (f 
   ]
 
   pub nodes_are : (limit : ℕ) (t : Ranked) → IsWholeRanking l v config column 0 c t
-      → AreNodesOf l.profile f config column limit (node_portions c.sums c.total config.nodefraction.billionths limit t.order)
+      → AreNodesOf l.profile f config column limit (node_portions c.sums c.total config.presentation.nodefraction.billionths limit t.order)
   nodes_are limit t whole =
       let keys : List Written = all_report_keys l.profile f config column in
       let are : map key_at t.order ≡ keys = whole.keys f holds in
-      let hs : List ℕ = numbers_where c.sums c.total config.nodefraction.billionths true t.order in
+      let hs : List ℕ = numbers_where c.sums c.total config.presentation.nodefraction.billionths true t.order in
       let heavies : map key_at hs ≡ candidate_keys l.profile f config column =
       where_are true t.order whole.below ∙ ap (filter (λ k. beq (heavy k) true)) are
       ∙ same_filter (λ k. beq (heavy k) true) heavy keys (λ k. wanted_true (heavy k)) ∙ sym (candidates_are l.profile f config column) in
-      let lights : map key_at (numbers_where c.sums c.total config.nodefraction.billionths false t.order) ≡ light_keys l.profile f config column =
+      let lights : map key_at (numbers_where c.sums c.total config.presentation.nodefraction.billionths false t.order) ≡ light_keys l.profile f config column =
       where_are false t.order whole.below ∙ ap (filter (λ k. beq (heavy k) false)) are
       ∙ same_filter (λ k. beq (heavy k) false) (λ k. not (heavy k)) keys (λ k. wanted_false (heavy k)) in
       let hs_below = where_below true t.order whole.below in
       λ i. record {
         counted = portion_is t.order keys whole.below are i;
-        light = portion_is (numbers_where c.sums c.total config.nodefraction.billionths false t.order) (light_keys l.profile f config column) (where_below false t.order whole.below) lights i;
+        light = portion_is (numbers_where c.sums c.total config.presentation.nodefraction.billionths false t.order) (light_keys l.profile f config column) (where_below false t.order whole.below) lights i;
         beyond = portion_is (past_limit limit hs) (past_limit limit (candidate_keys l.profile f config column)) (past_below (λ n. n < length c.sums.names) limit hs hs_below) (past_are limit hs ∙ ap (past_limit limit) heavies) i;
         shown = portion_is (shown_keys limit hs) (shown_keys limit (candidate_keys l.profile f config column)) (shown_below (λ n. n < length c.sums.names) limit hs hs_below) (shown_are limit hs ∙ ap (shown_keys limit) heavies) i;
       }

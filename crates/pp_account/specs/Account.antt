@@ -5,6 +5,7 @@ use Rattle.pp_model.specs.declared.config.Config.{Config}
 use Rattle.pp_model.specs.declared.profile.Profile.{Profile}
 use Rattle.pp_model.specs.declared.verdicts.Slot.{Slot}
 use Rattle.pp_model.specs.declared.verdicts.Slot.TheVariants as slots
+use Rattle.pp_model.specs.declared.filtering.Filtering.{Filtering}
 use Rattle.pp_model.specs.Finders.{Finders}
 use Rattle.pp_model.specs.ReportFacts.{variable_name}
 use Rattle.pp_units.specs.Head.{Facts, facts_text}
@@ -29,27 +30,28 @@ dropping =
     ∷ slots.TagIgnore ∷ []
 
 -- the value of the filter's variable as it stands
-abbrev pub filter_text : Config → Slot → List ℕ
-filter_text config slots.Ignore = config.ignore
-filter_text config slots.Focus = config.focus
-filter_text config slots.Hide = config.hide
-filter_text config slots.Show = config.show
-filter_text config slots.ShowFrom = config.show_from
-filter_text config slots.TagFocus = config.tagfocus
-filter_text config slots.TagIgnore = config.tagignore
-filter_text config _ = []
+abbrev pub filter_text : Filtering → Slot → List ℕ
+filter_text filtering slots.Ignore = filtering.ignore
+filter_text filtering slots.Focus = filtering.focus
+filter_text filtering slots.Hide = filtering.hide
+filter_text filtering slots.Show = filtering.show
+filter_text filtering slots.ShowFrom = filtering.show_from
+filter_text filtering slots.TagFocus = filtering.tagfocus
+filter_text filtering slots.TagIgnore = filtering.tagignore
+filter_text filtering _ = []
 
 -- the name of a filter's row: its variable and the value of that
-abbrev pub filter_name : Config → Slot → List ℕ
-filter_name config slot = variable_name slot ++ codes "=" ++ filter_text config slot
+abbrev pub filter_name : Filtering → Slot → List ℕ
+filter_name filtering slot = variable_name slot ++ codes "=" ++ filter_text filtering slot
 
 -- the row of the samples that a filter in force is the first to drop
 abbrev pub filter_row : Profile → Finders → Config → Option ℕ → Slot → List AccountRow
 filter_row p f config column slot =
-    if is_in_force f config slot
+    if is_in_force f config.filtering slot
     then record {
-      portion = portion_of config column (dropped_samples p f config slot p.sample);
-      name = filter_name config slot;
+      portion =
+          portion_of config.presentation column (dropped_samples p f config.filtering slot p.sample);
+      name = filter_name config.filtering slot;
     } ∷ []
     else []
 
@@ -62,12 +64,13 @@ bare_row portion =
 -- leave. The last row is of those that are left without a frame.
 abbrev pub sample_rows : Profile → Finders → Config → Option ℕ → List AccountRow
 sample_rows p f config column =
-    record { portion = portion_of config column p.sample; name = codes "loaded" }
+    record { portion = portion_of config.presentation column p.sample; name = codes "loaded" }
     ∷ flat_map (filter_row p f config column) dropping
     ++ record {
-      portion = portion_of config column (filtered_samples p f config p.sample);
+      portion =
+          portion_of config.presentation column (filtered_samples p f config.filtering p.sample);
       name = codes "left";
-    } ∷ bare_row (portion_of config column (bare_samples p f config column p.sample))
+    } ∷ bare_row (portion_of config.presentation column (bare_samples p f config column p.sample))
 
 -- The rows of keys under this limit, where 0 is none: those that occur, those that are too light, those that the limit
 -- leaves out, and those that are shown.

@@ -49,8 +49,8 @@ with_end (Some slots.TagIgnore) value d = record d { tagignore = portion_plus d.
 with_end (Some _) value d = d
 
 -- the portions with the sample's value: among all, where a filter drops it, and among those left without a frame
-abbrev pub with_sample : Option Slot → Bool → ℤ → PortionsOf → PortionsOf
-with_sample slot bare value d =
+abbrev pub with_sample_value : Option Slot → Bool → ℤ → PortionsOf → PortionsOf
+with_sample_value slot bare value d =
     with_end slot value (record d {
       loaded = portion_plus d.loaded value;
       bare = portion_plus_if bare d.bare value;

@@ -2,11 +2,11 @@
 use Rattle.std.specs.Prelude.{Bool, true, false, not, List, [], Option, Some, None, is_some, if◌then◌else◌}
 use Rattle.std.specs.List.{list_any}
 use Rattle.std.specs.Option.{option_map_or}
-use Rattle.pp_model.specs.declared.config.Config.{Config}
 use Rattle.pp_model.specs.declared.profile.Sample.{Sample}
 use Rattle.pp_model.specs.declared.profile.Profile.{Profile}
 use Rattle.pp_model.specs.declared.verdicts.Slot.{Slot}
 use Rattle.pp_model.specs.declared.verdicts.Slot.TheVariants as slots
+use Rattle.pp_model.specs.declared.filtering.Filtering.{Filtering}
 use Rattle.pp_model.specs.Finders.{Finder, Finders}
 use Rattle.pp_model.specs.Frames.{stack_of}
 use Rattle.pp_model.specs.FrameTexts.{Written, written}
@@ -36,10 +36,12 @@ first_of_stack told f stack =
     else first_of_shown told f (not_hidden told f stack)))
 
 -- The tag filter that is the first to drop the sample: tagfocus where it doesn't select it, tagignore where it does.
-abbrev pub first_of_tags : Profile → Finders → Config → Sample → Option Slot
-first_of_tags p f config s =
-    if not (selects_or true p (filter_in_force config.tagfocus) f.tagfocus s) then Some slots.TagFocus
-    else (if selects_or false p (filter_in_force config.tagignore) f.tagignore s then Some slots.TagIgnore
+abbrev pub first_of_tags : Profile → Finders → Filtering → Sample → Option Slot
+first_of_tags p f filtering s =
+    if not (selects_or true p (filter_in_force filtering.tagfocus) f.tagfocus s)
+    then Some slots.TagFocus
+    else (if selects_or false p (filter_in_force filtering.tagignore) f.tagignore s
+    then Some slots.TagIgnore
     else None)
 
 -- the first, and where there is none the second
@@ -49,10 +51,10 @@ slot_else None other = other
 
 -- The filter that is the first to drop the sample, none where all of them let it pass. Stack filters come before tag
 -- filters.
-abbrev pub first_filter : Profile → Finders → Config → Sample → Option Slot
-first_filter p f config s =
+abbrev pub first_filter : Profile → Finders → Filtering → Sample → Option Slot
+first_filter p f filtering s =
     slot_else (first_of_stack (written p) f (load_pruned (written p) f (stack_of p s)))
-    (first_of_tags p f config s)
+    (first_of_tags p f filtering s)
 
 -- whether it is this filter
 abbrev pub is_filter : Slot → Option Slot → Bool
@@ -66,12 +68,12 @@ is_filter slots.TagIgnore (Some slots.TagIgnore) = true
 is_filter _ _ = false
 
 -- Whether the filter is in force. Those that drop no sample aren't asked.
-abbrev pub is_in_force : Finders → Config → Slot → Bool
-is_in_force f config slots.Ignore = is_some f.ignore
-is_in_force f config slots.Focus = is_some f.focus
-is_in_force f config slots.Hide = is_some f.hide
-is_in_force f config slots.Show = is_some f.show
-is_in_force f config slots.ShowFrom = is_some f.show_from
-is_in_force f config slots.TagFocus = is_some (filter_in_force config.tagfocus)
-is_in_force f config slots.TagIgnore = is_some (filter_in_force config.tagignore)
-is_in_force f config _ = false
+abbrev pub is_in_force : Finders → Filtering → Slot → Bool
+is_in_force f filtering slots.Ignore = is_some f.ignore
+is_in_force f filtering slots.Focus = is_some f.focus
+is_in_force f filtering slots.Hide = is_some f.hide
+is_in_force f filtering slots.Show = is_some f.show
+is_in_force f filtering slots.ShowFrom = is_some f.show_from
+is_in_force f filtering slots.TagFocus = is_some (filter_in_force filtering.tagfocus)
+is_in_force f filtering slots.TagIgnore = is_some (filter_in_force filtering.tagignore)
+is_in_force f filtering _ = false

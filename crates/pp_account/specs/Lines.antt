@@ -4,6 +4,7 @@ use Rattle.std.specs.List.{flat_map}
 use Rattle.pp_model.specs.declared.config.Config.{Config}
 use Rattle.pp_model.specs.declared.profile.Profile.{Profile}
 use Rattle.pp_model.specs.declared.verdicts.Slot.{Slot}
+use Rattle.pp_model.specs.declared.filtering.Filtering.{Filtering}
 use Rattle.pp_model.specs.Finders.{Finders}
 use Rattle.pp_units.specs.Head.{Facts, facts_text}
 use Rattle.pp_graph.specs.Trim.{all_report_keys, report_keys}
@@ -20,27 +21,28 @@ abbrev pub portion_line : Facts → Portion → List ℕ → List ℕ
 portion_line h portion name = account_line h (record { portion = portion; name = name })
 
 -- the line of a filter, where it is in force
-abbrev pub filter_line : Finders → Config → PortionsOf → Facts → Slot → List ℕ
-filter_line f config d h slot =
-    if is_in_force f config slot then portion_line h (portion_at d slot) (filter_name config slot) else []
+abbrev pub filter_line : Finders → Filtering → PortionsOf → Facts → Slot → List ℕ
+filter_line f filtering d h slot =
+    if is_in_force f filtering slot
+    then portion_line h (portion_at d slot) (filter_name filtering slot) else []
 
 -- the lines of the rows of samples
-abbrev pub sample_lines : Finders → Config → PortionsOf → Facts → List ℕ
-sample_lines f config d h =
-    portion_line h d.loaded (codes "loaded") ++ flat_map (filter_line f config d h) dropping
+abbrev pub sample_portion_lines : Finders → Filtering → PortionsOf → Facts → List ℕ
+sample_portion_lines f filtering d h =
+    portion_line h d.loaded (codes "loaded") ++ flat_map (filter_line f filtering d h) dropping
     ++ portion_line h d.left (codes "left") ++ flat_map (account_line h) (bare_row d.bare)
 
 -- the lines of the rows of keys
-abbrev pub node_lines : NodePortions → Facts → List ℕ
-node_lines n h =
+abbrev pub node_portion_lines : NodePortions → Facts → List ℕ
+node_portion_lines n h =
     portion_line h n.counted (codes "counted") ++ portion_line h n.light (codes "below nodefraction")
     ++ portion_line h n.beyond (codes "beyond nodecount") ++ portion_line h n.shown (codes "shown")
 
 -- the whole text
-abbrev pub account_lines : Finders → Config → PortionsOf → NodePortions → Facts → List ℕ
-account_lines f config d n h =
-    facts_text h ++ account_heading (codes "samples") ++ sample_lines f config d h
-    ++ account_heading (codes "nodes") ++ node_lines n h
+abbrev pub account_lines : Finders → Filtering → PortionsOf → NodePortions → Facts → List ℕ
+account_lines f filtering d n h =
+    facts_text h ++ account_heading (codes "samples") ++ sample_portion_lines f filtering d h
+    ++ account_heading (codes "nodes") ++ node_portion_lines n h
 
 -- the portions are those of the report's keys under this limit
 abbrev pub AreNodesOf : Profile → Finders → Config → Option ℕ → ℕ → NodePortions → Type 0

@@ -26,7 +26,8 @@ keys_portion p f config column keys = record {
 -- the keys that occur and are too light to be shown
 abbrev pub light_keys : Profile → Finders → Config → Option ℕ → List Written
 light_keys p f config column =
-    filter (λ k. not (is_heavy_key key_cmp (total_of p f config column) config.nodefraction.billionths
+    filter (λ k. not (is_heavy_key key_cmp
+    (total_of p f config column) config.presentation.nodefraction.billionths
     (report_samples p f config column) k)) (all_report_keys p f config column)
 
 -- what stands past the limit, nothing where it is 0

@@ -28,7 +28,7 @@ pub fn write_account(
     out: &mut Text,
 ) -> Result<(), Memory>
     ensures ok { (f : Finders) →
-        HoldsFilters survey.now.l.now survey.now.v.now survey.now.config.now f →
+        HoldsFilters survey.now.l.now survey.now.v.now survey.now.config.now.filtering f →
         OnOk result (out.new ≡ out.old ++ account_text survey.now.l.now.profile f
         survey.now.config.now survey.now.column limit (facts head.now)) }
     ensures err { OnErr result (out.new ≡ out.old) }
@@ -43,7 +43,7 @@ pub fn write_account(
 // Where the keys of the report end.
 fn survey_nodes(alloc: Global, survey: &Survey<'_>, limit: u32) -> Result<NodePortions, Memory>
     ensures { (f : Finders) →
-        HoldsFilters survey.now.l.now survey.now.v.now survey.now.config.now f →
+        HoldsFilters survey.now.l.now survey.now.v.now survey.now.config.now.filtering f →
         IfOk result (AreNodesOf survey.now.l.now.profile f survey.now.config.now survey.now.column limit) }
 {
     let (counted, config) = (survey.counted, survey.config);
@@ -52,7 +52,7 @@ fn survey_nodes(alloc: Global, survey: &Survey<'_>, limit: u32) -> Result<NodePo
         alloc,
         counted,
         ranked.order.as_slice(),
-        config.nodefraction,
+        config.presentation.nodefraction,
         limit,
     )
 }
@@ -67,9 +67,10 @@ fn put_account(
     out: &mut Text,
 ) -> Result<(), Memory>
     ensures { (f : Finders) →
-        HoldsFilters survey.now.l.now survey.now.v.now survey.now.config.now f →
+        HoldsFilters survey.now.l.now survey.now.v.now survey.now.config.now.filtering f →
         IfOk result (λ _. out.new ≡ out.old
-        ++ account_lines f survey.now.config.now portions.now nodes.now (facts head.now)) }
+        ++ account_lines f survey.now.config.now.filtering portions.now nodes.now
+        (facts head.now)) }
 {
     write_head(alloc, head, out)?;
     put_heading(b"samples", out)?;

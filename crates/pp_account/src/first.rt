@@ -25,8 +25,9 @@ pub fn first_filter(scope: &Scope, s: &Sample, stack: &mut Stack) -> Result<Opti
     requires sound { IsSoundScope scope.now }
     requires member { IsSampleOf scope.now.l.now.profile s.now }
     requires refers { RefersTo scope.now.l.now.profile s.now }
-    ensures { let w = scope.now in (f : Finders) → HoldsFilters w.l.now w.v.now w.config.now f →
-        IfOk result (λ slot. slot ≡ first_filter w.l.now.profile f w.config.now s.now) }
+    ensures { let w = scope.now in (f : Finders) →
+        HoldsFilters w.l.now w.v.now w.config.now.filtering f →
+        IfOk result (λ slot. slot ≡ first_filter w.l.now.profile f w.config.now.filtering s.now) }
 {
     frames_into(scope.l, s, stack)?;
     load_prune(scope.l, stack);
@@ -142,8 +143,9 @@ fn first_of_cut(l: &Loaded, v: &Verdicts, stack: &mut Stack) -> Option<Slot>
 fn first_of_tags(scope: &Scope, s: &Sample) -> Option<Slot>
     requires sound { IsSoundScope scope.now }
     requires member { IsSampleOf scope.now.l.now.profile s.now }
-    ensures { let w = scope.now in (f : Finders) → HoldsFilters w.l.now w.v.now w.config.now f →
-        result ≡ first_of_tags w.l.now.profile f w.config.now s.now }
+    ensures { let w = scope.now in (f : Finders) →
+        HoldsFilters w.l.now w.v.now w.config.now.filtering f →
+        result ≡ first_of_tags w.l.now.profile f w.config.now.filtering s.now }
 {
     let (l, v, filters) = (scope.l, scope.v, scope.filters);
     if !selects_or(l, &filters.tagfocus, &v.tag, &v.tagfocus, s, true) {

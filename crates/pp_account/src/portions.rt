@@ -1,6 +1,6 @@
 //! Where the samples of a report end.
 ghost use Rattle.std.specs.Prelude.{◌≡◌};
-ghost use Rattle.pp_account.specs.Adding.{no_portions, portion_at, with_end, with_sample};
+ghost use Rattle.pp_account.specs.Adding.{no_portions, portion_at, with_end, with_sample_value};
 
 use crate::portion::Portion;
 use pp_model::Slot;
@@ -52,7 +52,7 @@ impl Portions {
     /// Adds a sample of this value, which this filter is the first to drop, or which all let pass. `bare` says that it
     /// is left without a frame.
     pub fn add(&mut self, filter: Option<Slot>, bare: bool, value: i64)
-        ensures { self.new ≡ with_sample filter bare value self.old }
+        ensures { self.new ≡ with_sample_value filter bare value self.old }
     {
         self.loaded = self.loaded.plus(value);
         self.bare = self.bare.plus_if(bare, value);

@@ -10,7 +10,7 @@ ghost use Rattle.pp_count.specs.Seeing.{HoldsFilters};
 ghost use Rattle.pp_account.specs.Account.{account_heading, account_line, bare_row, dropping, filter_name, filter_text};
 ghost use Rattle.pp_account.specs.Adding.{portion_at};
 ghost use Rattle.pp_account.specs.First.{is_in_force};
-ghost use Rattle.pp_account.specs.Lines.{filter_line, node_lines, sample_lines};
+ghost use Rattle.pp_account.specs.Lines.{filter_line, node_portion_lines, sample_portion_lines};
 
 use crate::nodes::NodePortions;
 use crate::portion::Portion;
@@ -18,7 +18,7 @@ use crate::portions::Portions;
 use itoa::Buffer;
 use pp_base::{Memory, Text};
 use pp_count::Survey;
-use pp_model::{Config, Slot};
+use pp_model::{Filtering, Slot};
 use pp_units::{Head, put_right};
 use std::alloc::Global;
 
@@ -43,9 +43,9 @@ pub fn put_sample_rows(
     out: &mut Text,
 ) -> Result<(), Memory>
     ensures { (f : Finders) →
-        HoldsFilters survey.now.l.now survey.now.v.now survey.now.config.now f →
+        HoldsFilters survey.now.l.now survey.now.v.now survey.now.config.now.filtering f →
         IfOk result (λ _. out.new ≡ out.old
-        ++ sample_lines f survey.now.config.now portions.now (facts head.now)) }
+        ++ sample_portion_lines f survey.now.config.now.filtering portions.now (facts head.now)) }
 {
     let mut scratch = Text::new(alloc);
     put_row(portions.loaded, b"loaded", head, &mut scratch, out)?;
@@ -63,9 +63,10 @@ fn put_filter_rows(
     out: &mut Text,
 ) -> Result<(), Memory>
     ensures { (f : Finders) →
-        HoldsFilters survey.now.l.now survey.now.v.now survey.now.config.now f →
+        HoldsFilters survey.now.l.now survey.now.v.now survey.now.config.now.filtering f →
         IfOk result (λ _. out.new ≡ out.old
-        ++ flat_map (filter_line f survey.now.config.now portions.now (facts head.now)) dropping) }
+        ++ flat_map (filter_line f survey.now.config.now.filtering portions.now (facts head.now))
+        dropping) }
 {
     let mut room = RowRoom {
         name: Text::new(alloc),
@@ -94,15 +95,15 @@ fn put_filter_row(
     out: &mut Text,
 ) -> Result<(), Memory>
     ensures { (f : Finders) →
-        HoldsFilters survey.now.l.now survey.now.v.now survey.now.config.now f →
+        HoldsFilters survey.now.l.now survey.now.v.now survey.now.config.now.filtering f →
         IfOk result (λ _. out.new ≡ out.old
-        ++ filter_line f survey.now.config.now portions.now (facts head.now) slot) }
+        ++ filter_line f survey.now.config.now.filtering portions.now (facts head.now) slot) }
 {
     if !is_in_force(survey, slot) {
         return Ok(());
     }
     room.name.clear();
-    put_filter_name(survey.config, slot, &mut room.name)?;
+    put_filter_name(&survey.config.filtering, slot, &mut room.name)?;
     put_row(
         portions.at(slot),
         room.name.as_slice(),
@@ -113,26 +114,26 @@ fn put_filter_row(
 }
 
 // The filter's variable and the value of that.
-fn put_filter_name(config: &Config, slot: Slot, out: &mut Text) -> Result<(), Memory>
-    ensures { IfOk result (λ _. out.new ≡ out.old ++ filter_name config.now slot) }
+fn put_filter_name(filtering: &Filtering, slot: Slot, out: &mut Text) -> Result<(), Memory>
+    ensures { IfOk result (λ _. out.new ≡ out.old ++ filter_name filtering.now slot) }
 {
     out.extend(slot.name())?;
     out.extend(b"=")?;
-    out.extend(filter_text(config, slot))
+    out.extend(filter_text(filtering, slot))
 }
 
 // The value of the filter's variable.
-fn filter_text(config: &Config, slot: Slot) -> &[u8]
-    ensures { result.now ≡ filter_text config.now slot }
+fn filter_text(filtering: &Filtering, slot: Slot) -> &[u8]
+    ensures { result.now ≡ filter_text filtering.now slot }
 {
     match slot {
-        Slot::Ignore => config.ignore.as_slice(),
-        Slot::Focus => config.focus.as_slice(),
-        Slot::Hide => config.hide.as_slice(),
-        Slot::Show => config.show.as_slice(),
-        Slot::ShowFrom => config.show_from.as_slice(),
-        Slot::TagFocus => config.tagfocus.as_slice(),
-        Slot::TagIgnore => config.tagignore.as_slice(),
+        Slot::Ignore => filtering.ignore.as_slice(),
+        Slot::Focus => filtering.focus.as_slice(),
+        Slot::Hide => filtering.hide.as_slice(),
+        Slot::Show => filtering.show.as_slice(),
+        Slot::ShowFrom => filtering.show_from.as_slice(),
+        Slot::TagFocus => filtering.tagfocus.as_slice(),
+        Slot::TagIgnore => filtering.tagignore.as_slice(),
         Slot::PruneFrom | Slot::TagShow | Slot::TagHide | Slot::Own => b"",
     }
 }
@@ -140,8 +141,8 @@ fn filter_text(config: &Config, slot: Slot) -> &[u8]
 // Whether the filter is in force.
 fn is_in_force(survey: &Survey<'_>, slot: Slot) -> bool
     ensures { (f : Finders) →
-        HoldsFilters survey.now.l.now survey.now.v.now survey.now.config.now f →
-        result ≡ is_in_force f survey.now.config.now slot }
+        HoldsFilters survey.now.l.now survey.now.v.now survey.now.config.now.filtering f →
+        result ≡ is_in_force f survey.now.config.now.filtering slot }
 {
     let (v, filters) = (survey.v, survey.filters());
     match slot {
@@ -179,7 +180,8 @@ pub fn put_node_rows(
     head: &Head,
     out: &mut Text,
 ) -> Result<(), Memory>
-    ensures { IfOk result (λ _. out.new ≡ out.old ++ node_lines portions.now (facts head.now)) }
+    ensures { IfOk result (λ _. out.new ≡ out.old
+        ++ node_portion_lines portions.now (facts head.now)) }
 {
     let mut scratch = Text::new(alloc);
     put_row(portions.counted, b"counted", head, &mut scratch, out)?;

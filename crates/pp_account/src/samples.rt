@@ -5,9 +5,9 @@ ghost use Rattle.pp_model.specs.Conditions.{IsSampleOf, RefersTo};
 ghost use Rattle.pp_model.specs.Finders.{Finders};
 ghost use Rattle.pp_stack.specs.Filters.{has_no_items};
 ghost use Rattle.pp_count.specs.Column.{selected};
-ghost use Rattle.pp_count.specs.Scope.{AreCountable, IsSoundScope};
+ghost use Rattle.pp_count.specs.Scope.{AreCountable, IsSoundScope, config_of};
 ghost use Rattle.pp_count.specs.Seeing.{HoldsFilters, filtered_stack};
-ghost use Rattle.pp_account.specs.Adding.{with_sample};
+ghost use Rattle.pp_account.specs.Adding.{with_sample_value};
 ghost use Rattle.pp_account.specs.First.{first_filter};
 ghost use Rattle.pp_account.specs.Portions.{is_bare, portions_of};
 
@@ -20,7 +20,7 @@ use std::alloc::Global;
 
 // What is seen of one sample, in room that is used again.
 #[derive(Drop)]
-struct Room {
+struct SampleRoom {
     // Its frames, as far as they are needed.
     stack: Stack,
     // The key numbers of its frames that count.
@@ -30,7 +30,7 @@ struct Room {
 /// Where the samples of the report end. `Err` is want of memory.
 pub fn portions_of(alloc: Global, survey: &Survey<'_>) -> Result<Portions, Memory>
     ensures { (f : Finders) →
-        HoldsFilters survey.now.l.now survey.now.v.now survey.now.config.now f →
+        HoldsFilters survey.now.l.now survey.now.v.now survey.now.config.now.filtering f →
         IfOk result (λ d. d ≡ portions_of survey.now.l.now.profile f survey.now.config.now
         survey.now.column survey.now.l.now.profile.sample) }
 {
@@ -38,6 +38,7 @@ pub fn portions_of(alloc: Global, survey: &Survey<'_>) -> Result<Portions, Memor
         l: survey.l,
         v: survey.v,
         config: survey.config,
+        grouping: survey.config.grouping,
         filters: survey.filters(),
         column: survey.column,
         table: survey.table(),
@@ -52,11 +53,12 @@ fn add_samples(alloc: Global, scope: &Scope) -> Result<Portions, Memory>
     requires sound { IsSoundScope scope.now }
     requires countable { AreCountable scope.now scope.now.l.now.profile.sample }
     requires whole { scope.now.chosen ≡ None }
-    ensures { let w = scope.now in (f : Finders) → HoldsFilters w.l.now w.v.now w.config.now f →
+    ensures { let w = scope.now in (f : Finders) →
+        HoldsFilters w.l.now w.v.now w.config.now.filtering f →
         IfOk result (λ d. d
-        ≡ portions_of w.l.now.profile f w.config.now w.column w.l.now.profile.sample) }
+        ≡ portions_of w.l.now.profile f (config_of w) w.column w.l.now.profile.sample) }
 {
-    let mut room = Room {
+    let mut room = SampleRoom {
         stack: List::new(alloc),
         keys: Vec::new(alloc),
     };
@@ -71,18 +73,25 @@ fn add_samples(alloc: Global, scope: &Scope) -> Result<Portions, Memory>
 fn add_sample(
     scope: &Scope,
     s: &Sample,
-    room: &mut Room,
+    room: &mut SampleRoom,
     portions: &mut Portions,
 ) -> Result<(), Memory>
     requires sound { IsSoundScope scope.now }
     requires member { IsSampleOf scope.now.l.now.profile s.now }
     requires refers { RefersTo scope.now.l.now.profile s.now }
-    ensures { let w = scope.now in (f : Finders) → HoldsFilters w.l.now w.v.now w.config.now f →
-        IfOk result (λ _. portions.new ≡ with_sample (first_filter w.l.now.profile f w.config.now s.now)
-        (is_bare w.l.now.profile f w.config.now w.column s.now)
-        (selected w.column w.config.now.divide_by s.now) portions.old) }
+    ensures { let w = scope.now in (f : Finders) →
+        HoldsFilters w.l.now w.v.now w.config.now.filtering f →
+        IfOk result (λ _. portions.new
+        ≡ with_sample_value (first_filter w.l.now.profile f w.config.now.filtering s.now)
+        (is_bare w.l.now.profile f (config_of w) w.column s.now)
+        (selected w.column w.config.now.presentation.divide_by s.now) portions.old) }
 {
-    let value = selected(scope.l, s, scope.column, scope.config.divide_by);
+    let value = selected(
+        scope.l,
+        s,
+        scope.column,
+        scope.config.presentation.divide_by,
+    );
     let is_kept = see(scope, s, &mut room.stack, &mut room.keys)?;
     let filter = filter_unless(scope, s, is_kept, &mut room.stack)?;
     portions.add(filter, is_bare(is_kept, value, &room.keys), value);
@@ -107,9 +116,10 @@ fn filter_unless(
     requires sound { IsSoundScope scope.now }
     requires member { IsSampleOf scope.now.l.now.profile s.now }
     requires refers { RefersTo scope.now.l.now.profile s.now }
-    ensures { let w = scope.now in (f : Finders) → HoldsFilters w.l.now w.v.now w.config.now f →
-        is_kept ≡ is_some (filtered_stack w.l.now.profile f w.config.now s.now) →
-        IfOk result (λ slot. slot ≡ first_filter w.l.now.profile f w.config.now s.now) }
+    ensures { let w = scope.now in (f : Finders) →
+        HoldsFilters w.l.now w.v.now w.config.now.filtering f →
+        is_kept ≡ is_some (filtered_stack w.l.now.profile f w.config.now.filtering s.now) →
+        IfOk result (λ slot. slot ≡ first_filter w.l.now.profile f w.config.now.filtering s.now) }
 {
     if is_kept {
         return Ok(None);

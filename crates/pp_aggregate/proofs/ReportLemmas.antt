@@ -46,11 +46,11 @@ module _ (keep : Kept) (p : Profile) (f : Finders) (config : Config) (column : O
 
   -- what is seen of a sample
   abbrev framed : Profile → Sample → Option (Seen Written)
-  framed q s = option_map (framed_with q config column s) (filtered_stack q f config s)
+  framed q s = option_map (framed_with q config column s) (filtered_stack q f config.filtering s)
 
   -- The sample is dropped as before, or has what is left of its frames that count.
   record IsLeft (s : Sample) : Type 0 where
-    some : is_some (filtered_stack kept f config s) ≡ is_some (filtered_stack p f config s)
+    some : is_some (filtered_stack kept f config.filtering s) ≡ is_some (filtered_stack p f config.filtering s)
     frames : framed kept s ≡ option_map (renamed (left_of_frame keep)) (framed p s)
 
   -- of one stack
@@ -58,8 +58,8 @@ module _ (keep : Kept) (p : Profile) (f : Finders) (config : Config) (column : O
       → option_map (framed_with kept config column s) o ≡ option_map (renamed (left_of_frame keep)) (option_map (framed_with p config column s) o)
   stack_left s None each = refl
   stack_left s (Some stack) each = λ i. Some (record {
-    value = selected column config.divide_by s;
-    keys = ((λ j. map (λ x. each x j) (counted_frames config.noinlines stack)) ∙ sym (map_twice (left_of_frame keep) (written p) (counted_frames config.noinlines stack))) i;
+    value = selected column config.presentation.divide_by s;
+    keys = ((λ j. map (λ x. each x j) (counted_frames config.grouping.noinlines stack)) ∙ sym (map_twice (left_of_frame keep) (written p) (counted_frames config.grouping.noinlines stack))) i;
   })
 
   -- With inlined frames patterns find the same.
@@ -82,10 +82,10 @@ module _ (keep : Kept) (p : Profile) (f : Finders) (config : Config) (column : O
       let stacks : frames_of_sample kept f s ≡ frames_of_sample p f s =
       ap (filtered (written kept) f) (frames_whole keep p empty whole 0 s.location_id)
       ∙ same_filtered (written kept) (written p) f (find_same whole left) (stack_of p s) in
-      let same : filtered_stack kept f config s ≡ filtered_stack p f config s = ap (λ o. cond (passes_tags p f config s) o None) stacks in
+      let same : filtered_stack kept f config.filtering s ≡ filtered_stack p f config.filtering s = ap (λ o. cond (passes_tags p f config.filtering s) o None) stacks in
       record {
         some = ap is_some same;
-        frames = ap (option_map (framed_with kept config column s)) same ∙ stack_left s (filtered_stack p f config s) (frame_whole keep p empty whole);
+        frames = ap (option_map (framed_with kept config column s)) same ∙ stack_left s (filtered_stack p f config.filtering s) (frame_whole keep p empty whole);
       }
 
   -- the pattern has a match where it had one
@@ -107,16 +107,16 @@ module _ (keep : Kept) (p : Profile) (f : Finders) (config : Config) (column : O
   match_none pattern none =
       ap (λ o. frame_match kept f o p.sample) none ∙ sym (ap (λ o. frame_match p f o p.sample) none)
 
-  matches_left : FramesStay keep p f config → matches_of kept f config ≡ matches_of p f config
+  matches_left : FramesStay keep p f config.grouping → matches_of kept f config.filtering ≡ matches_of p f config.filtering
   matches_left stay = by keep.inline_frames refl stay.patterns
     where
-      all : Matches f.focus → Matches f.ignore → Matches f.hide → Matches f.show → Matches f.show_from → matches_of kept f config ≡ matches_of p f config
+      all : Matches f.focus → Matches f.ignore → Matches f.hide → Matches f.show → Matches f.show_from → matches_of kept f config.filtering ≡ matches_of p f config.filtering
       all focus ignore hide show show_from = λ i.
           focus i ∷ ignore i ∷ hide i ∷ show i ∷ show_from i
-          ∷ tag_match p config.tagfocus f.tagfocus p.sample ∷ tag_match p config.tagignore f.tagignore p.sample
+          ∷ tag_match p config.filtering.tagfocus f.tagfocus p.sample ∷ tag_match p config.filtering.tagignore f.tagignore p.sample
           ∷ true ∷ key_match p f.tagshow p.sample ∷ key_match p f.taghide p.sample ∷ []
 
-      by : (b : Bool) → keep.inline_frames ≡ b → patterns_stay b keep p f → matches_of kept f config ≡ matches_of p f config
+      by : (b : Bool) → keep.inline_frames ≡ b → patterns_stay b keep p f → matches_of kept f config.filtering ≡ matches_of p f config.filtering
       by true is left =
           let same = find_same is left in
           let each = match_whole is left in
@@ -126,17 +126,17 @@ module _ (keep : Kept) (p : Profile) (f : Finders) (config : Config) (column : O
           (match_none f.show_from none.show_from)
 
   -- without them
-  last_left : keeps_counted keep config ≡ true → AsksNoFrame f → (s : Sample) → IsLeft s
+  last_left : keeps_counted keep config.grouping ≡ true → AsksNoFrame f → (s : Sample) → IsLeft s
   last_left counted none s =
-      let before : filtered_stack p f config s ≡ cond (passes_tags p f config s) (Some (stack_of p s)) None =
-      ap (λ o. cond (passes_tags p f config s) o None) (unfiltered (written p) f (stack_of p s) none) in
-      let after : filtered_stack kept f config s ≡ cond (passes_tags p f config s) (Some (stack_of kept s)) None =
-      ap (λ o. cond (passes_tags p f config s) o None) (unfiltered (written kept) f (stack_of kept s) none) in
+      let before : filtered_stack p f config.filtering s ≡ cond (passes_tags p f config.filtering s) (Some (stack_of p s)) None =
+      ap (λ o. cond (passes_tags p f config.filtering s) o None) (unfiltered (written p) f (stack_of p s) none) in
+      let after : filtered_stack kept f config.filtering s ≡ cond (passes_tags p f config.filtering s) (Some (stack_of kept s)) None =
+      ap (λ o. cond (passes_tags p f config.filtering s) o None) (unfiltered (written kept) f (stack_of kept s) none) in
       record {
-        some = ap is_some after ∙ by_tags (passes_tags p f config s) ∙ sym (ap is_some before);
+        some = ap is_some after ∙ by_tags (passes_tags p f config.filtering s) ∙ sym (ap is_some before);
         frames =
             ap (option_map (framed_with kept config column s)) after
-            ∙ framed_tags (passes_tags p f config s) (counted_left keep p empty config.noinlines 0 s.location_id counted)
+            ∙ framed_tags (passes_tags p f config.filtering s) (counted_left keep p empty config.grouping.noinlines 0 s.location_id counted)
             ∙ sym (ap (λ o. option_map (renamed (left_of_frame keep)) (option_map (framed_with p config column s) o)) before);
       }
     where
@@ -145,22 +145,22 @@ module _ (keep : Kept) (p : Profile) (f : Finders) (config : Config) (column : O
       by_tags false = refl
 
       framed_tags : (b : Bool)
-          → map (written kept) (counted_frames config.noinlines (stack_of kept s)) ≡ map (left_of_frame keep) (map (written p) (counted_frames config.noinlines (stack_of p s)))
+          → map (written kept) (counted_frames config.grouping.noinlines (stack_of kept s)) ≡ map (left_of_frame keep) (map (written p) (counted_frames config.grouping.noinlines (stack_of p s)))
           → option_map (framed_with kept config column s) (cond b (Some (stack_of kept s)) None)
           ≡ option_map (renamed (left_of_frame keep)) (option_map (framed_with p config column s) (cond b (Some (stack_of p s)) None))
-      framed_tags true keys = λ i. Some (record { value = selected column config.divide_by s; keys = keys i })
+      framed_tags true keys = λ i. Some (record { value = selected column config.presentation.divide_by s; keys = keys i })
       framed_tags false keys = refl
 
   -- either way
-  each_left : FramesStay keep p f config → (s : Sample) → IsLeft s
+  each_left : FramesStay keep p f config.grouping → (s : Sample) → IsLeft s
   each_left stay = by keep.inline_frames refl stay.patterns
     where
       by : (b : Bool) → keep.inline_frames ≡ b → patterns_stay b keep p f → (s : Sample) → IsLeft s
       by true is patterns = whole_left is patterns
       by false is patterns = last_left stay.counted patterns
 
-  module _ (stay : FramesStay keep p f config) where
-    some_left : (s : Sample) → is_some (filtered_stack kept f config s) ≡ is_some (filtered_stack p f config s)
+  module _ (stay : FramesStay keep p f config.grouping) where
+    some_left : (s : Sample) → is_some (filtered_stack kept f config.filtering s) ≡ is_some (filtered_stack p f config.filtering s)
     some_left s = (each_left stay s).some
 
     pub frames_left : report_frames kept f config column ≡ map (renamed (left_of_frame keep)) (report_frames p f config column)
@@ -172,7 +172,7 @@ module _ (keep : Kept) (p : Profile) (f : Finders) (config : Config) (column : O
     pub are_left : AreLeft keep p f config column
     are_left = record {
       numbers = λ i. numbers_from (λ s. some_left s i) 0 p.sample;
-      total = λ i. total_over p config column (cond config.relative_percentages (filter (λ s. some_left s i) p.sample) p.sample);
+      total = λ i. total_over p config.presentation column (cond config.presentation.relative_percentages (filter (λ s. some_left s i) p.sample) p.sample);
       frames = frames_left;
       matches = matches_left stay;
       own = λ functions.
@@ -186,18 +186,18 @@ module _ (keep : Kept) (p : Profile) (f : Finders) (config : Config) (column : O
             list_any-map (left_of_frame keep) (finds_own f) ws
             ∙ (λ i. list_any (λ w. option_map_or (λ find. find (cond (functions i) w.function [])) f.own false) ws)
 
-    pub samples_stay : keeps_keys keep config.grain config.showcolumns ≡ true → report_samples kept f config column ≡ report_samples p f config column
+    pub samples_stay : keeps_keys keep config.grouping.grain config.grouping.showcolumns ≡ true → report_samples kept f config column ≡ report_samples p f config column
     samples_stay all =
         sym (keyed_report kept f config column)
-        ∙ ap (map (renamed (key_of_written config))) frames_left
-        ∙ map_twice (renamed (key_of_written config)) (renamed (left_of_frame keep)) (report_frames p f config column)
+        ∙ ap (map (renamed (key_of_written config.grouping))) frames_left
+        ∙ map_twice (renamed (key_of_written config.grouping)) (renamed (left_of_frame keep)) (report_frames p f config column)
         ∙ (λ i. map (λ s. keys_same s i) (report_frames p f config column))
         ∙ keyed_report p f config column
       where
-        keys_same : (s : Seen Written) → renamed (key_of_written config) (renamed (left_of_frame keep) s) ≡ renamed (key_of_written config) s
+        keys_same : (s : Seen Written) → renamed (key_of_written config.grouping) (renamed (left_of_frame keep) s) ≡ renamed (key_of_written config.grouping) s
         keys_same s = λ i. record {
           value = s.value;
-          keys = (map_twice (key_of_written config) (left_of_frame keep) s.keys ∙ (λ j. map (λ w. key_left keep config.grain config.showcolumns w all j) s.keys)) i;
+          keys = (map_twice (key_of_written config.grouping) (left_of_frame keep) s.keys ∙ (λ j. map (λ w. key_left keep config.grouping.grain config.grouping.showcolumns w all j) s.keys)) i;
         }
 
 pub frames_are_left : FramesAreLeft
@@ -219,15 +219,15 @@ sums_are_same keep p f config column sums valid stay all given =
 
 -- stacks that no filter cut
 pub keys_are_same : KeysStay
-keys_are_same keep p config s valid counted all =
-    sym (map_twice key (written kept) (counted_frames config.noinlines (stack_of kept s)))
-    ∙ ap (map key) (counted_left keep p (text_zero p valid) config.noinlines 0 s.location_id counted)
-    ∙ map_twice key (left_of_frame keep) (map (written p) (counted_frames config.noinlines (stack_of p s)))
-    ∙ (λ i. map (λ w. key_left keep config.grain config.showcolumns w all i) (map (written p) (counted_frames config.noinlines (stack_of p s))))
-    ∙ map_twice key (written p) (counted_frames config.noinlines (stack_of p s))
+keys_are_same keep p grouping s valid counted all =
+    sym (map_twice key (written kept) (counted_frames grouping.noinlines (stack_of kept s)))
+    ∙ ap (map key) (counted_left keep p (text_zero p valid) grouping.noinlines 0 s.location_id counted)
+    ∙ map_twice key (left_of_frame keep) (map (written p) (counted_frames grouping.noinlines (stack_of p s)))
+    ∙ (λ i. map (λ w. key_left keep grouping.grain grouping.showcolumns w all i) (map (written p) (counted_frames grouping.noinlines (stack_of p s))))
+    ∙ map_twice key (written p) (counted_frames grouping.noinlines (stack_of p s))
   where
     kept : Profile
     kept = aggregated keep p
 
     key : Written → Written
-    key = key_of_written config
+    key = key_of_written grouping

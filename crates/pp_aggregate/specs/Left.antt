@@ -1,11 +1,11 @@
 -- What is left of a frame in an aggregated profile, and which reports do not miss what is dropped.
 use Rattle.std.specs.Prelude.{◌≡◌, Bool, true, false, not, ◌&&◌, ◌||◌, [], Option, None, if◌then◌else◌}
 use Rattle.std.specs.Option.{option_map_or}
-use Rattle.pp_model.specs.declared.config.Config.{Config}
-use Rattle.pp_model.specs.declared.config.Grain.{Grain}
-use Rattle.pp_model.specs.declared.config.Grain.TheVariants.{Functions, FileFunctions, Files, Lines, Addresses}
+use Rattle.pp_model.specs.declared.grouping.Grain.{Grain}
+use Rattle.pp_model.specs.declared.grouping.Grain.TheVariants.{Functions, FileFunctions, Files, Lines, Addresses}
 use Rattle.pp_model.specs.declared.frame.Frame.{Frame}
 use Rattle.pp_model.specs.declared.profile.Profile.{Profile}
+use Rattle.pp_model.specs.declared.grouping.Grouping.{Grouping}
 use Rattle.pp_model.specs.Finders.{Finder, Finders}
 use Rattle.pp_model.specs.FrameTexts.{Written, written}
 use Rattle.pp_stack.specs.Filters.{finds_frame, finds_function, is_prunable}
@@ -37,8 +37,8 @@ keeps_keys keep Lines showcolumns = keeps_lines keep showcolumns
 keeps_keys keep Addresses showcolumns = keeps_lines keep showcolumns && keep.addresses
 
 -- each frame that the report counts is kept
-abbrev pub keeps_counted : Kept → Config → Bool
-keeps_counted keep config = keep.inline_frames || config.noinlines
+abbrev pub keeps_counted : Kept → Grouping → Bool
+keeps_counted keep grouping = keep.inline_frames || grouping.noinlines
 
 -- the pattern finds the frame; one that isn't in force finds none
 abbrev pub finds_in_force : Option Finder → Written → Bool
@@ -82,6 +82,6 @@ patterns_stay true keep p f = FindsLeft keep p f
 patterns_stay false keep p f = AsksNoFrame f
 
 -- The samples that the filters leave do not depend on what is dropped, nor do their frames that count.
-pub record FramesStay (keep : Kept) (p : Profile) (f : Finders) (config : Config) : Type 0 where
-  pub counted : keeps_counted keep config ≡ true
+pub record FramesStay (keep : Kept) (p : Profile) (f : Finders) (grouping : Grouping) : Type 0 where
+  pub counted : keeps_counted keep grouping ≡ true
   pub patterns : patterns_stay keep.inline_frames keep p f

@@ -57,7 +57,7 @@ use Rattle.pp_load.specs.declared.refusal.LoadRefusal.{LoadRefusal}
 use Rattle.pp_load.specs.declared.refusal.LoadRefusal.TheVariants as refusals
 use Rattle.pp_load.specs.Combine.{agreeing, combined, joining, less_bases, merging, scaling, scaling_if, subtracting}
 use Rattle.pp_load.specs.Decode.{checked, decoded, legacy_given, tables_given, tables_of}
-use Rattle.pp_load.specs.Joining.{AreCountableProfiles, AreMergeable, AreOf, CanTakeOff, HasStarts, IsPair, first_kinds}
+use Rattle.pp_load.specs.Joining.{AreCountableProfiles, AreMergeable, AreOf, CanTakeOff, HasStarts, CanTakeOffOne, first_kinds}
 use Rattle.pp_load.specs.Load.{load, read_all, read_base, read_bytes, read_next, read_plan}
 use Rattle.pp_load.specs.Reads.{loaded_or, size_limit, with_verdicts}
 use Rattle.pp_load.specs.Sources.{IsCountableRead, nothing_read, with_bytes, within_size_limit}
@@ -269,11 +269,11 @@ subtracting_gives kind normalize source bases p own can fit is =
     by normalize base of_scaled.0 of_scaled.1 of_scaled.2 (pair_of source base bases can one) known.0 known.1
   where
     -- what is left of a source that was scaled or not
-    taken_off : (scaled base : Profile) → IsPair scaled base → NoRuleFails scaled → TellsFitting scaled → NoRuleFails base → TellsFitting base → merging (scaled ∷ negated kind base ∷ []) ≡ Ok p → IsLoadable p
+    taken_off : (scaled base : Profile) → CanTakeOffOne scaled base → NoRuleFails scaled → TellsFitting scaled → NoRuleFails base → TellsFitting base → merging (scaled ∷ negated kind base ∷ []) ≡ Ok p → IsLoadable p
     taken_off scaled base pair valid fits base_valid base_fits given =
         loadable (scaled ∷ negated kind base ∷ []) p (pair_joins kind scaled base valid base_valid pair) (fits, (negated_fitting kind base base_fits, tt)) given
 
-    by : (normalize : Bool) (base scaled : Profile) → scaling_if normalize source base ≡ Ok scaled → merging (scaled ∷ negated kind base ∷ []) ≡ Ok p → IsPair source base → NoRuleFails base → TellsFitting base → IsLoadable p
+    by : (normalize : Bool) (base scaled : Profile) → scaling_if normalize source base ≡ Ok scaled → merging (scaled ∷ negated kind base ∷ []) ≡ Ok p → CanTakeOffOne source base → NoRuleFails base → TellsFitting base → IsLoadable p
     by true base scaled is given pair base_valid base_fits =
         let same = (nothing_found _ _ (normalized source base) scaled is).1 in
         taken_off (normalized source base) base (scaled_pair source base pair) (scaled_valid source base own.valid) (scaled_fitting source base own.fits) base_valid base_fits

@@ -1,45 +1,13 @@
 -- Where the regions of a CPU profile's text lie fits 64 bits.
-use Rattle.std.proofs.Common.{◌≡◌, ℕ, ◌<◌, ◌≤◌, ◌^◌, Bool, true, false, ◌&&◌, List, length, take, drop, refl, subst, arith}
-use Rattle.std.specs.Prelude.{Option, None, Some, nat_le, if◌then◌else◌}
-use Rattle.std.specs.Char.{is_ascii_hexdigit}
-use Rattle.std.specs.List.{AllByRecursion, prefix_len, slice_split}
-use Rattle.std.specs.Str.Parse.{digits_value}
-use Rattle.std.proofs.Math.Nat.{pow-le-pow_right}
-use Rattle.std.proofs.lemmas.Bool.{leb-true, and_parts}
-use Rattle.std.proofs.lemmas.Int.Digits.{digits_value-lt}
-use Rattle.std.proofs.lemmas.List.{length-take}
+use Rattle.std.proofs.Common.{◌≡◌, ℕ, ◌<◌, ◌^◌, Bool, true, false, List, subst}
+use Rattle.std.specs.Prelude.{None, Some, if◌then◌else◌}
+use Rattle.std.specs.List.{AllByRecursion, slice_split}
 use Rattle.std.proofs.lemmas.Option.{none-some, same_Some}
 use Rattle.pp_base.specs.Marks.{is_line_end}
 use Rattle.pp_legacy.specs.Regions as regions
 use Rattle.pp_legacy.specs.Regions.{Region, hex_in, range_in, region_in, is_code, code_in}
-use Rattle.pp_legacy.proofs.HexLemmas.{all_hex}
 use Rattle.pp_merge.proofs.SettledLemmas.{all_any, all_some}
-
--- a number of at most 16 hexadecimal digits has 64 bits
-hex_small : (line : List ℕ) (part : ℕ × List ℕ) → hex_in line ≡ Some part → part.0 < 2 ^ 64
-unfolding hex_in
-hex_small line part is = by (nat_le 1 len && nat_le len 16) refl is
-  where
-    len : ℕ
-    len = prefix_len is_ascii_hexdigit line
-
-    by : (few : Bool) → (nat_le 1 (prefix_len is_ascii_hexdigit line) && nat_le (prefix_len is_ascii_hexdigit line) 16) ≡ few
-        → (if few then Some (digits_value 16 (take (prefix_len is_ascii_hexdigit line) line), drop (prefix_len is_ascii_hexdigit line) line) else None) ≡ Some part → part.0 < 2 ^ 64
-    by true few h =
-        let digits = take (prefix_len is_ascii_hexdigit line) line in
-        let most : prefix_len is_ascii_hexdigit line ≤ 16 = leb-true (prefix_len is_ascii_hexdigit line) 16 (and_parts (nat_le 1 (prefix_len is_ascii_hexdigit line)) (nat_le (prefix_len is_ascii_hexdigit line) 16) few).1 in
-        let size : length digits ≤ 16 = omega (arith, most, length-take (prefix_len is_ascii_hexdigit line) line) in
-        let value = digits_value-lt 16 digits (all_hex line) in
-        let power : 16 ^ length digits ≤ 16 ^ 16 = pow-le-pow_right (omega arith) size in
-        let small : digits_value 16 digits < 2 ^ 64 = omega (arith, value, power) in
-        subst (λ (q : ℕ × List ℕ). q.0 < 2 ^ 64) (same_Some _ _ h) small
-    by false few h = absurd (none-some part h)
-
--- what holds of each end of what goes on holds of what was found at last
-and_then_holds : {A B : Type 0} (P : B → Type 0) (f : A → Option B) (o : Option A) → ((x : A) → o ≡ Some x → (y : B) → f x ≡ Some y → P y)
-    → (y : B) → regions.◌>>=◌ o f ≡ Some y → P y
-and_then_holds P f None each y is = absurd (none-some y is)
-and_then_holds P f (Some x) each y is = each x refl y is
+use Rattle.pp_load.proofs.StartLemmas.{hex_small, and_then_holds}
 
 -- The region's addresses and its place in the file have 64 bits.
 pub record IsSmall (region : Region) : Type 0 where

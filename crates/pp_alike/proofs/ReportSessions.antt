@@ -12,7 +12,7 @@ use Rattle.pp_desk.specs.Effects.{Effect, ToOut, ToErr, ToFile, FromFile, outsid
 use Rattle.pp_desk.specs.Lines.{next_of, after_next}
 use Rattle.pp_desk.specs.Script.{Script, Give, Make, WriteOut, WriteErr, ReadFile, WriteFile, Ask, NextLine, ◌>>=◌}
 use Rattle.pp_desk.specs.Went.{content_within}
-use Rattle.pp_desk.proofs.Closing.{did_more}
+use Rattle.pp_desk.proofs.Closing.{files_after-append}
 use Rattle.pp_desk.proofs.Quiet.{Only}
 use Rattle.pp_model.specs.declared.loaded.Loaded.{Loaded}
 use Rattle.pp_model.specs.declared.report.Report.{Report}
@@ -71,9 +71,6 @@ looks_same (Make NextLine p) files locked others lines more o = absurd (false≢
 -- effects on the files alone
 on_files : (files : Option FileMap) (es : List Effect) → Did (outside None None files None) (outside None None (files_after files es) None) es
 on_files files es = record { out = refl; err = refl; files = refl; reads = refl }
-
-files_joined : (files : Option FileMap) (es fs : List Effect) → files_after files (es ++ fs) ≡ files_after (files_after files es) fs
-files_joined files es fs = sym (did_more _ _ _ es fs (on_files files es) (on_files (files_after files es) fs)).files
 
 -- ---- the end of a session
 
@@ -158,7 +155,7 @@ module _ (finds : Finds) {plan : Plan} (report : Report) (named : plan.report �
           err = errs_more loading.effects (noted.effects ++ last) reads ∙ flat_map-append err_of noted.effects last
               ∙ (λ i. notes_are i ++ errs (end_of report (outcome_is i)).effects);
           value = ap (λ (known : Result (List ℕ) ReportRefusal). (end_of report known).value) outcome_is;
-          no_file = λ files. files_more files loading.effects (noted.effects ++ last) reads ∙ files_joined files noted.effects last
+          no_file = λ files. files_more files loading.effects (noted.effects ++ last) reads ∙ files_after-append files noted.effects last
               ∙ ap (λ (o : Option FileMap). files_after o last) (tells.no_file files) ∙ no_file_at_end report noted.value files;
         }
 

@@ -69,15 +69,15 @@ same_loading finds plan other path first third has but =
 
 -- ---- a file that was saved, and a session that loads it
 
-module _ (finds : Finds) {saving reading : Plan} (path : List ℕ) (l : Loaded) (saves : saving.report ≡ Some reports.Proto) (keyless : NamesNoKey saving.config) (file : HasOneFile reading path)
+module _ (finds : Finds) {saving reading : Plan} (path : List ℕ) (l : Loaded) (saves : saving.report ≡ Some reports.Proto) (keyless : NamesNoKey saving.config.presentation) (file : HasOneFile reading path)
     (first : SessionOf saving) (second : SessionOf reading) (loaded : (loading_in finds first).value ≡ Ok l)
     (stand : StandAt path (outs (course_in finds first).effects) second.files) where
   abbrev f : Finders
-  f = report_finders finds l reports.Proto saving.config
+  f = report_finders finds l reports.Proto saving.config.filtering
 
   -- what is saved
   abbrev q : Profile
-  q = saved_by finds l saving.config
+  q = saved_by finds l saving.config.filtering
 
   known : IsLoadable l.profile
   known = loaded_is finds saving first.files first.locked first.lines first.answers l loaded
@@ -103,12 +103,12 @@ module _ (finds : Finds) {saving reading : Plan} (path : List ℕ) (l : Loaded) 
   small = let limit : size_limit ≡ 268435456 = refl in omega (arith, short, limit)
 
   decoded_is : decoded 0 (encode q) ≡ Ok q
-  decoded_is = written_loaded 0 q lasts.valid (saved_fits l.profile known.fits f saving.config known.valid known.countable small known.alone) (omega (arith, small))
+  decoded_is = written_loaded 0 q lasts.valid (saved_fits l.profile known.fits f saving.config.filtering known.valid known.countable small known.alone) (omega (arith, small))
 
   alone : IsMergedAlone q
   alone = record {
     alone = lasts.settled;
-    small = none_too_large q (saved_countable l.profile known.fits f saving.config known.valid known.countable small);
+    small = none_too_large q (saved_countable l.profile known.fits f saving.config.filtering known.valid known.countable small);
     drop = lasts.drop;
     keep = lasts.keep;
   }
@@ -130,7 +130,7 @@ module _ (finds : Finds) (saving reading filtering : Plan) (report : Report) (pa
   c = filtering.config
 
   abbrev r : Loaded
-  r = loaded_of (saved_by finds l saving.config) None None
+  r = loaded_of (saved_by finds l saving.config.filtering) None None
 
   own : IsLoadable l.profile
   own = loaded_is finds saving first.files first.locked first.lines first.answers l loaded
@@ -138,13 +138,13 @@ module _ (finds : Finds) (saving reading filtering : Plan) (report : Report) (pa
   source : IsSource l.profile
   source = record { settled = own.alone; least = plain.least; plain = plain.plain }
 
-  can : CanSave l.profile c
+  can : CanSave l.profile c.presentation
   can = can_save l.profile c own.valid (starts finds path l pass.saves staying.keyless pass.file first second loaded stand) source staying.counts
 
   third_loaded : (loading_in finds third).value ≡ Ok l
   third_loaded = ap (λ (x : Course (Result Loaded LoadRefusal)). x.value) (same_loading finds saving filtering path first third pass.sources but) ∙ loaded
 
-  saved_of : IsSavedOf finds l c r
+  saved_of : IsSavedOf finds l c.filtering r
   saved_of = record { profile = sym (saved_same finds l saving.config c pass.same_filters); drop = refl; keep = refl }
 
   one : ComeToOne (report_script finds r reading.base_kind report (unfiltered c)) (report_script finds l filtering.base_kind report c)
@@ -180,14 +180,14 @@ saved_files_report_alike finds saving reading filtering report path l pass stayi
 
 pub saved_files_save_alike : SavedFilesSaveAlike
 saved_files_save_alike finds saving again path l save first second loaded stand =
-    let q : Profile = saved_by finds l saving.config in
+    let q : Profile = saved_by finds l saving.config.filtering in
     let r : Loaded = loaded_of q None None in
     let last : IsLasting q = lasts finds path l save.saves save.keyless save.file first second loaded stand in
-    let same : saved_by finds r again.config ≡ q = ap (saved_by finds r) save.no_filters ∙ saved_whole q again.config last in
+    let same : saved_by finds r again.config.filtering ≡ q = ap (saved_by finds r) save.no_filters ∙ saved_whole q last in
     let gives = proto_taken finds r again.base_kind again.config save.keyless_again in
     let ends = session_ends finds reports.Proto save.saves_again second r (second_loaded finds path l save.saves save.keyless save.file first second loaded stand) gives.0 _ gives.1 in
     record {
-      out = ends.out ∙ append-nil (encode (saved_by finds r again.config)) ∙ ap encode same ∙ sym (text_is finds path l save.saves save.keyless save.file first second loaded stand);
+      out = ends.out ∙ append-nil (encode (saved_by finds r again.config.filtering)) ∙ ap encode same ∙ sym (text_is finds path l save.saves save.keyless save.file first second loaded stand);
       done = (first_ends finds path l save.saves save.keyless save.file first second loaded stand).1.value;
       done_again = ends.value;
     }

@@ -11,13 +11,13 @@ use Rattle.std.proofs.lemmas.List.Sums.{get_or-le-sum_by}
 use Rattle.std.proofs.lemmas.Option.{none-some, same_Some}
 use Rattle.pp_base.proofs.Lists.{all_by}
 use Rattle.pp_wire.specs.Spelling.{bytes_field, shortest, tag_bytes, varint_bytes}
-use Rattle.pp_model.specs.declared.config.Config.{Config}
 use Rattle.pp_model.specs.declared.frame.Frame.{Frame}
 use Rattle.pp_model.specs.declared.profile.Label.{Label}
 use Rattle.pp_model.specs.declared.profile.Line.{Line}
 use Rattle.pp_model.specs.declared.profile.Location.{Location}
 use Rattle.pp_model.specs.declared.profile.Profile.{Profile}
 use Rattle.pp_model.specs.declared.profile.Sample.{Sample}
+use Rattle.pp_model.specs.declared.filtering.Filtering.{Filtering}
 use Rattle.pp_model.specs.Conditions.{location_at}
 use Rattle.pp_model.specs.Finders.{Finders}
 use Rattle.pp_model.specs.Frames.{line_at}
@@ -135,18 +135,18 @@ module _ (p : Profile) (fits : TellsFitting p) where
   cut_fits : (group : List Frame) → LocationTextFits (cut_text p group)
   cut_fits group = location_fits p fits all all_fit (cut_location p group) (cut_lines group)
 
-  module _ (f : Finders) (config : Config) where
+  module _ (f : Finders) (filtering : Filtering) where
     abbrev c : Contents
-    c = saved_contents p f config
+    c = saved_contents p f filtering
 
     abbrev q : Profile
-    q = saved p f config
+    q = saved p f filtering
 
     abbrev items : List (SampleText × List ℤ)
-    items = cut_samples p f config
+    items = cut_samples p f filtering
 
     all_locations : AllByRecursion LocationTextFits (locations c)
-    all_locations = locations_each p f config LocationTextFits cut_fits
+    all_locations = locations_each p f filtering LocationTextFits cut_fits
 
     first_fits : (m : MappingText) → c.first_mapping ≡ Some m → RangeFits m
     first_fits m is = at_place RangeFits all 0 m all_fit is
@@ -162,16 +162,16 @@ module _ (p : Profile) (fits : TellsFitting p) where
     labels_fit : AllByRecursion (λ (s : SampleText × List ℤ). NumbersFit s.0) c.samples
     labels_fit =
         kept_hold NumbersFit (length p.sample_type) items
-        (all_some (λ (item : SampleText × List ℤ). NumbersFit item.0) (λ s. option_map (cut_sample p f s) (filtered_stack p f config s)) p.sample
-        (all_by HasNumbers (λ (s : Sample). (y : SampleText × List ℤ) → option_map (cut_sample p f s) (filtered_stack p f config s) ≡ Some y → NumbersFit y.0)
-        (λ s own y found. one_label s own (filtered_stack p f config s) y found) p.sample fits.labels))
+        (all_some (λ (item : SampleText × List ℤ). NumbersFit item.0) (λ s. option_map (cut_sample p f s) (filtered_stack p f filtering s)) p.sample
+        (all_by HasNumbers (λ (s : Sample). (y : SampleText × List ℤ) → option_map (cut_sample p f s) (filtered_stack p f filtering s) ≡ Some y → NumbersFit y.0)
+        (λ s own y found. one_label s own (filtered_stack p f filtering s) y found) p.sample fits.labels))
 
     module _ (valid : NoRuleFails p) (countable : IsCountable p) where
       sums_within : (column : ℕ) → column < length p.sample_type → absolute_sum q column ≤ 2 ^ 63 - 1
-      sums_within column within = omega (arith, sizes_within p f config column within valid, countable.sums column within)
+      sums_within column within = omega (arith, sizes_within p f filtering column within valid, countable.sums column within)
 
       samples_wide : AllByRecursion (λ (s : Sample). length s.value ≡ length p.sample_type) q.sample
-      samples_wide = all_mapped (λ (s : Sample). length s.value ≡ length p.sample_type) (written_sample c) c.samples (rows_long p f config)
+      samples_wide = all_mapped (λ (s : Sample). length s.value ≡ length p.sample_type) (written_sample c) c.samples (rows_long p f filtering)
 
       -- each value is within the sum of its column
       value_fits : (k : ℕ) (d : Sample) → k < length q.sample → (j : ℕ) (e : ℤ) → j < length (get_or q.sample k d).value → IsInt (get_or (get_or q.sample k d).value j e)
@@ -261,7 +261,7 @@ module _ (p : Profile) (fits : TellsFitting p) where
           drop_frames = index_fits c.header.drop_frames;
           keep_frames = index_fits c.header.keep_frames;
           time_nanos = fits.time_nanos;
-          duration_nanos = subst IsInt (sym (same_duration p f config settled)) fits.duration_nanos;
+          duration_nanos = subst IsInt (sym (same_duration p f filtering settled)) fits.duration_nanos;
           period_type = type_fits c.header.period_type;
           period = fits.period;
           comment = all_mapped IsInt (index_of c) c.header.comments (all_any (λ text. IsInt (index_of c text)) index_fits c.header.comments);

@@ -66,7 +66,7 @@ module _ (finds : Finds) (g : SavedGroup) (saves : SavesWhole g) (can : IsMergea
   l = loaded_of q None None
 
   abbrev saved : Profile
-  saved = saved_by finds l g.plan.config
+  saved = saved_by finds l g.plan.config.filtering
 
   -- it has no patterns of its own
   no_drop : text_of q q.drop_frames ≡ []
@@ -84,7 +84,7 @@ module _ (finds : Finds) (g : SavedGroup) (saves : SavesWhole g) (can : IsMergea
   known = loaded_is finds g.plan g.session.files g.session.locked g.session.lines g.session.answers l loaded
 
   same : saved ≡ q
-  same = ap (saved_by finds l) saves.no_filters ∙ saved_whole q g.plan.config (record { valid = known.valid; settled = known.alone; drop = no_drop; keep = no_keep })
+  same = ap (saved_by finds l) saves.no_filters ∙ saved_whole q (record { valid = known.valid; settled = known.alone; drop = no_drop; keep = no_keep })
 
   ends : (notes : List ℕ) × Ends (course_in finds g.session) reports.Proto notes (Ok (encode saved))
   ends =
@@ -98,7 +98,7 @@ module _ (finds : Finds) (g : SavedGroup) (saves : SavesWhole g) (can : IsMergea
   fits : length (encode q) < 2 ^ 32 → ProfileFits q
   fits small =
       subst ProfileFits same
-      (saved_fits q known.fits (report_finders finds l reports.Proto g.plan.config) g.plan.config known.valid known.countable (subst (λ (p : Profile). length (encode p) < 2 ^ 32) (sym same) small) known.alone)
+      (saved_fits q known.fits (report_finders finds l reports.Proto g.plan.config.filtering) g.plan.config.filtering known.valid known.countable (subst (λ (p : Profile). length (encode p) < 2 ^ 32) (sym same) small) known.alone)
 
   prints_merge : PrintsMerge finds g
   prints_merge = record {

@@ -1,6 +1,6 @@
 -- A plan whose sources are profiles loads their merge.
 use Rattle.std.proofs.Common.{◌≡◌, ℕ, ◌+◌, ◌≤◌, ◌<◌, ◌^◌, Bool, true, false, List, [], ◌∷◌, ◌++◌, map, fold, length, drop, Option, Some, None, refl, sym, ap, ◌∙◌, append-nil, append_assoc, arith}
-use Rattle.std.specs.Prelude.{Result, Ok, Err, is_some, nat_lt, if◌then◌else◌}
+use Rattle.std.specs.Prelude.{Result, Ok, Err, nat_lt, if◌then◌else◌}
 use Rattle.std.specs.List.{AllByRecursion}
 use Rattle.std.proofs.lemmas.Bool.{le-ltb}
 use Rattle.std.proofs.lemmas.List.{length-map, take_all}
@@ -17,7 +17,6 @@ use Rattle.pp_desk.specs.Course.{Course, course, does}
 use Rattle.pp_desk.specs.Effects.{Effect, FromFile}
 use Rattle.pp_desk.specs.Script as scripts
 use Rattle.pp_desk.specs.Script.{Give}
-use Rattle.pp_desk.specs.Went.{content_within}
 use Rattle.pp_model.specs.declared.loaded.Loaded.{Loaded}
 use Rattle.pp_model.specs.declared.profile.Profile.{Profile}
 use Rattle.pp_model.specs.declared.report.BaseKind.{BaseKind}
@@ -56,6 +55,7 @@ use Rattle.pp_load.specs.Reads.{size_limit, bytes_found, read_path, loaded_or, w
 use Rattle.pp_load.specs.Sources.{nothing_read, within_size_limit, with_profile, with_bytes}
 use Rattle.pp_load.specs.Steps as steps
 use Rattle.pp_load.specs.Steps.{unless}
+use Rattle.pp_load.proofs.AloneLemmas.{no_kind, whole_read}
 use Rattle.pp_alike.specs.SavedGroups.{HasProfiles, source_bytes}
 use Rattle.pp_engine.proofs.Courses.{AreReads}
 use Rattle.pp_alike.proofs.LoadedLemmas.{is_decoded}
@@ -154,11 +154,6 @@ profiles_read read (bytes ∷ all) (p ∷ ps) are =
     profiles_read (with_profile read (length bytes) p) all ps (same_cons (decoded 0 bytes) (Ok p) (map (decoded 0) all) (map Ok ps) are).1
     ∙ append_assoc read.profiles (p ∷ []) ps
 
--- the bytes are read whole
-whole_read : (content : Option (List ℕ)) (bytes : List ℕ) → content ≡ Some bytes → length bytes ≤ size_limit → content_within size_limit content ≡ contents.Whole bytes
-whole_read content bytes is short =
-    ap (content_within size_limit) is ∙ ap (λ long. if long then contents.TooLong else contents.Whole bytes) (le-ltb size_limit (length bytes) short)
-
 bytes_fit : (read : Read) (bytes : List ℕ) → read.size + length bytes ≤ size_limit → within_size_limit read (length bytes) ≡ Ok tt
 bytes_fit read bytes short = ap (λ long. if long then Err (refusals.AllTooLong (length read.profiles)) else Ok tt) (le-ltb size_limit (read.size + length bytes) short)
 
@@ -256,10 +251,6 @@ module _ (finds : Finds) (p : Profile) (drop : text_of p p.drop_frames ≡ []) (
       ∙ (λ i. Give (Ok (loaded_of p (finder_in_force finds (whole_name (drop i))) (finder_in_force finds (whole_name (keep i))))))
 
 -- ---- all of loading
-
-no_kind : (kind : Option BaseKind) → is_some kind ≡ false → kind ≡ None
-no_kind None is = refl
-no_kind (Some kind) is = absurd cc
 
 -- a plan without bases
 pub kindless : (plan : Plan) → plan.bases ≡ [] → plan.base_kind ≡ None

@@ -12,6 +12,7 @@ use Rattle.pp_model.specs.declared.loaded.Loaded.{Loaded}
 use Rattle.pp_model.specs.declared.profile.Profile.{Profile}
 use Rattle.pp_model.specs.declared.report.Report.{Report}
 use Rattle.pp_model.specs.declared.report.Report.TheVariants as reports
+use Rattle.pp_model.specs.Defaults.{standard_filtering}
 use Rattle.pp_count.specs.Counts.{is_base}
 use Rattle.pp_load.specs.declared.refusal.LoadRefusal.{LoadRefusal}
 use Rattle.pp_load.specs.Alone.{HasOneFile}
@@ -70,9 +71,9 @@ pub record PassOn (saving reading filtering : Plan) (report : Report) (path : Li
 -- is by keys, and no frames are made from labels.
 pub record ReportsStaying (saving filtering : Plan) (report : Report) : Type 0 where
   pub stays : stays_saved report ≡ true
-  pub counts : CountsFiltered filtering.config
-  pub plain : IsPlain filtering.config
-  pub keyless : NamesNoKey saving.config
+  pub counts : CountsFiltered filtering.config.presentation
+  pub plain : IsPlain filtering.config.presentation
+  pub keyless : NamesNoKey saving.config.presentation
 
 -- No value of the profile is below 0, and no sample is of a base.
 pub record IsOfSources (p : Profile) : Type 0 where
@@ -121,9 +122,9 @@ pub record SaveAgain (saving again : Plan) (path : List ℕ) : Type 0 where
   pub saves : saving.report ≡ Some reports.Proto
   pub saves_again : again.report ≡ Some reports.Proto
   pub file : HasOneFile again path
-  pub no_filters : again.config ≡ unfiltered again.config
-  pub keyless : NamesNoKey saving.config
-  pub keyless_again : NamesNoKey again.config
+  pub no_filters : again.config.filtering ≡ standard_filtering
+  pub keyless : NamesNoKey saving.config.presentation
+  pub keyless_again : NamesNoKey again.config.presentation
 
 -- Both sessions print the same, and end done.
 pub record SavedAlike (c d : Course Cause) : Type 0 where

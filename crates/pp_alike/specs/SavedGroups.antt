@@ -10,6 +10,7 @@ use Rattle.pp_model.specs.declared.profile.Profile.{Profile}
 use Rattle.pp_model.specs.declared.report.Report.TheVariants as reports
 use Rattle.pp_model.specs.Judged.{loaded_of}
 use Rattle.pp_model.specs.Lookup.{text_of}
+use Rattle.pp_model.specs.Defaults.{standard_filtering}
 use Rattle.pp_load.specs.Decode.{decoded}
 use Rattle.pp_load.specs.Generator.{generated}
 use Rattle.pp_load.specs.Load.{load}
@@ -18,7 +19,6 @@ use Rattle.pp_options.specs.declared.origin.Origin.{Origin}
 use Rattle.pp_options.specs.declared.origin.Origin.TheVariants.{Path, Gen}
 use Rattle.pp_options.specs.declared.plan.Plan.{Plan}
 use Rattle.pp_pattern.specs.Report.{Finds}
-use Rattle.pp_saved.specs.Premises.{unfiltered}
 use Rattle.pp_saved.specs.SavedReports.{NamesNoKey}
 use Rattle.pp_steps.specs.Premises.{HasFirstMappings, LosesNoSample}
 use Rattle.pp_steps.specs.Refused.{IsMergeable, one_group}
@@ -66,8 +66,8 @@ groups_of groups = map (λ g. g.sources) groups
 pub record SavesWhole (g : SavedGroup) : Type 0 where
   pub has : HasProfiles g.plan g.session.files (sources_of g.sources)
   pub saves : g.plan.report ≡ Some reports.Proto
-  pub no_filters : g.plan.config ≡ unfiltered g.plan.config
-  pub keyless : NamesNoKey g.plan.config
+  pub no_filters : g.plan.config.filtering ≡ standard_filtering
+  pub keyless : NamesNoKey g.plan.config.presentation
   pub no_drop : text_of g.sources.first g.sources.first.drop_frames ≡ []
   pub no_keep : text_of g.sources.first g.sources.first.keep_frames ≡ []
 

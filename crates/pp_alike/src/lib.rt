@@ -1,7 +1,7 @@
 //! Laws of sessions: which of them go alike, by the definition that `pp_engine::run` is proved against.
 //!
-//! Each law is the contract of a call that does nothing, and no clause of a call rests on one. Begin with `decoded` and
-//! `files`: a session over a file hangs on what the file is decoded to, and a session over a saved file goes as one over
+//! Each law is the contract of a call that does nothing, and no clause of a call rests on one. Begin with `decoded`: a
+//! session over a file depends on what the file is decoded to. By `files` a session over a saved file goes as one over
 //! its sources. `groups` has files of which each was saved of a group of sources, and `turns` the turns of the shell.
 #![tactic(auto)]
 

@@ -19,7 +19,7 @@ use Rattle.pp_count.specs.Table.{written_key}
 use Rattle.pp_count.specs.declared.scope.Scope.{Scope}
 use Rattle.pp_count.specs.Sums.{Seen, weighed, renamed}
 use Rattle.pp_count.specs.Parts.{HasBelow}
-use Rattle.pp_count.specs.Scope.{profile_in_scope, samples_in_scope}
+use Rattle.pp_count.specs.Scope.{profile_in_scope, samples_in_scope, config_of}
 use Rattle.pp_count.proofs.CallerLemmas.{weighed-renamed}
 use Rattle.pp_calltree.specs.declared.building.ReportPaths.{ReportPaths}
 use Rattle.pp_calltree.specs.declared.listing.PathSum.{PathSum}
@@ -103,10 +103,10 @@ moved_paths S cut sorted is moved = subst (λ (r : List (Seen ℕ)). IsPermutati
 
 -- what holds of a scope's own values holds of those that it is of
 of_scope : (P : Loaded → Verdicts → Config → Option ℕ → Type 0) (l : Loaded) (v : Verdicts) (config : Config) (column : Option ℕ) (scope : Scope) → IsScopeOf l v config column scope
-    → P scope.l.now scope.v.now scope.config.now scope.column → P l v config column
+    → P scope.l.now scope.v.now (config_of scope) scope.column → P l v config column
 of_scope P l v config column scope same here =
     subst (λ x. P x v config column) same.l_is (subst (λ x. P scope.l.now x config column) same.v_is
-    (subst (λ x. P scope.l.now scope.v.now x column) same.config_is (subst (λ x. P scope.l.now scope.v.now scope.config.now x) same.column_is here)))
+    (subst (λ x. P scope.l.now scope.v.now x column) same.config_is (subst (λ x. P scope.l.now scope.v.now (config_of scope) x) same.column_is here)))
 
 -- The gathered paths in the order of their keys.
 module _ (gathered : ReportPaths) (sorted : List Path) (moved : IsPermutation (samples_of_paths gathered.paths) (below 0 sorted)) where

@@ -22,7 +22,7 @@ use Rattle.pp_count.specs.Parts.{HasBelow}
 use Rattle.pp_count.proofs.EachOnce.{Apart, AllApart, ranked}
 use Rattle.pp_count.proofs.Renaming.{same_found, list_any-renamed}
 use Rattle.pp_calltree.specs.declared.branch.Branch.{Branch}
-use Rattle.pp_calltree.specs.declared.texts.Texts.{Texts}
+use Rattle.pp_calltree.specs.declared.texts.NameTexts.{NameTexts}
 use Rattle.pp_calltree.specs.CallTree.{first_keys, path_cum, path_flat, sibling_order, siblings}
 use Rattle.pp_calltree.specs.Branches.{Said, branch_said, branch_of, AreBranches}
 use Rattle.pp_calltree.specs.Siblings.{texts_at, size_cmp, branch_cmp}
@@ -69,7 +69,7 @@ item_at [] j h = absurd (omega arith)
 item_at (x ∷ xs) zero h = x
 item_at (x ∷ xs) (suc j) h = item_at xs j (omega arith)
 
-module _ (texts : Texts) (name : ℕ → Written) (n : ℕ) (apart : (a b : ℕ) → a < n → b < n → eq_by_cmp key_cmp (name a) (name b) ≡ eq_by_cmp nat_cmp a b)
+module _ (texts : NameTexts) (name : ℕ → Written) (n : ℕ) (apart : (a b : ℕ) → a < n → b < n → eq_by_cmp key_cmp (name a) (name b) ≡ eq_by_cmp nat_cmp a b)
     (texts_are : (k : ℕ) → k < n → texts_at texts k ≡ name k) (depth : ℕ) (S : List (Seen ℕ)) (below : All (HasBelow n) S) (list : List Branch) (are : AreBranches depth S list) where
   abbrev W : List (Seen Written)
   W = map (renamed name) S

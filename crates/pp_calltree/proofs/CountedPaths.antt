@@ -42,7 +42,7 @@ paths_within S =
 -- one more sample, which the filters keep
 pub paths_more : (scope : Scope) (samples : List Sample) (i : ℕ) (s : Sample) (keys : List ℕ) (old new : Paths)
     → i < length samples → s ≡ get_or samples i s → IsSeen scope s true keys → All (λ k. k < length scope.table.now.names) keys
-    → ((paths : List (Seen ℕ)) → AreKeptAs old paths → AreKeptAs new (paths ++ rooted_if (selected scope.column (config_of scope).divide_by s) keys))
+    → ((paths : List (Seen ℕ)) → AreKeptAs old paths → AreKeptAs new (paths ++ rooted_if (selected scope.column scope.config.now.presentation.divide_by s) keys))
     → HasPaths scope (take i samples) old → HasPaths scope (take (i + 1) samples) new
 paths_more scope samples i s keys old new here at_i is below more so_far =
     let one : Seen ℕ = by_numbers scope s keys in
@@ -80,7 +80,7 @@ no_paths scope paths none = record {
 seen-append : (scope : Scope) (a b : List Sample) (s t : List (Seen ℕ)) → AreSeen scope a s → AreSeen scope b t → AreSeen scope (a ++ b) (s ++ t)
 seen-append scope a b s t first second =
     let size : Seen ℕ → ℕ = λ x. nat_abs x.value in
-    let all : Sample → ℕ = λ x. nat_abs (selected scope.column (config_of scope).divide_by x) in
+    let all : Sample → ℕ = λ x. nat_abs (selected scope.column scope.config.now.presentation.divide_by x) in
     record {
       below = All-append (HasBelow (length scope.table.now.names)) s t first.below second.below;
       within = omega (arith, first.within, second.within, sum_by-append size s t, sum_by-append all a b);

@@ -4,12 +4,12 @@ use Rattle.std.specs.List.{sum_by}
 use Rattle.std.proofs.lemmas.List.{append-nil, append_assoc, drop_all, drop_more, length-drop, length-append, map-append, reverse-append, take_all, take_more, take-append-le, drop-append-le}
 use Rattle.std.proofs.lemmas.List.Sums.{sum_by-append, sum_by-cons, sum_by_push}
 use Rattle.pp_count.specs.Sums.{Seen}
-use Rattle.pp_calltree.specs.declared.path.Part.{Part}
+use Rattle.pp_calltree.specs.declared.path.PathPart.{PathPart}
 use Rattle.pp_calltree.specs.declared.path.Path.{Path}
 use Rattle.pp_calltree.specs.declared.paths.Paths.{Paths}
 use Rattle.pp_calltree.specs.Paths.{parts_of, path_of, AreKeptAs}
 
-abbrev len_of : Part → ℕ
+abbrev len_of : PathPart → ℕ
 len_of s = s.len
 
 none_left : (xs : List ℕ) → length xs ≡ 0 → xs ≡ []
@@ -17,7 +17,7 @@ none_left [] none = refl
 none_left (x ∷ xs) none = absurd (omega (arith, none))
 
 -- the paths of two lists of keys
-parts-append : (keys more : List ℕ) (parts others : List Part) → sum_by len_of parts ≡ length keys → parts_of (keys ++ more) (parts ++ others) ≡ parts_of keys parts ++ parts_of more others
+parts-append : (keys more : List ℕ) (parts others : List PathPart) → sum_by len_of parts ≡ length keys → parts_of (keys ++ more) (parts ++ others) ≡ parts_of keys parts ++ parts_of more others
 parts-append keys more [] others whole = ap (λ ks. parts_of (ks ++ more) others) (none_left keys (sym whole))
 parts-append keys more (x ∷ parts) others whole =
     let within : x.len ≤ length keys = omega (arith, whole, sum_by-cons len_of x parts) in
@@ -25,7 +25,7 @@ parts-append keys more (x ∷ parts) others whole =
     (λ i. record { value = x.value; keys = take-append-le x.len keys more within i } ∷ parts_of (drop-append-le x.len keys more within i) (parts ++ others))
     ∙ ap (λ r. record { value = x.value; keys = take x.len keys } ∷ r) (parts-append (drop x.len keys) more parts others rest)
 
-pub kept_more : (old new : Paths) (samples : List (Seen ℕ)) (s : Part) (more : List ℕ) → new.keys.items ≡ old.keys.items ++ more → new.parts.items ≡ old.parts.items ++ s ∷ []
+pub kept_more : (old new : Paths) (samples : List (Seen ℕ)) (s : PathPart) (more : List ℕ) → new.keys.items ≡ old.keys.items ++ more → new.parts.items ≡ old.parts.items ++ s ∷ []
     → s.len ≡ length more → AreKeptAs old samples → AreKeptAs new (samples ++ record { value = s.value; keys = more } ∷ [])
 kept_more old new samples s more keys parts own kept = record {
   are = (λ i. parts_of (keys i) (parts i)) ∙ parts-append old.keys.items more old.parts.items (s ∷ []) kept.whole
@@ -63,12 +63,12 @@ kept_none paths keys parts = record {
 }
 
 -- The first paths are cut off, and what is left of the keys has the others.
-pub record CutTo (keys : List ℕ) (parts : List Part) (i : ℕ) (rest : List ℕ) (paths : List Path) : Type 0 where
+pub record CutTo (keys : List ℕ) (parts : List PathPart) (i : ℕ) (rest : List ℕ) (paths : List Path) : Type 0 where
   pub fits : sum_by (λ s. s.len) (drop i parts) ≤ length rest
   pub are : map path_of paths ++ parts_of rest (drop i parts) ≡ parts_of keys parts
 
-module _ (keys : List ℕ) (parts : List Part) (i : ℕ) (d : Part) (rest : List ℕ) (paths : List Path) (here : i < length parts) (so_far : CutTo keys parts i rest paths) where
-  abbrev next : Part
+module _ (keys : List ℕ) (parts : List PathPart) (i : ℕ) (d : PathPart) (rest : List ℕ) (paths : List Path) (here : i < length parts) (so_far : CutTo keys parts i rest paths) where
+  abbrev next : PathPart
   next = get_or parts i d
 
   pub cut_fits : next.len ≤ length rest
@@ -92,7 +92,7 @@ module _ (keys : List ℕ) (parts : List Part) (i : ℕ) (d : Part) (rest : List
         ∙ so_far.are;
   }
 
-pub cut_all : (keys : List ℕ) (parts : List Part) (i : ℕ) (rest : List ℕ) (paths : List Path) → length parts ≤ i → CutTo keys parts i rest paths
+pub cut_all : (keys : List ℕ) (parts : List PathPart) (i : ℕ) (rest : List ℕ) (paths : List Path) → length parts ≤ i → CutTo keys parts i rest paths
     → map path_of paths ≡ parts_of keys parts
 cut_all keys parts i rest paths past so_far =
     sym (append-nil (map path_of paths)) ∙ ap (λ ps. map path_of paths ++ parts_of rest ps) (sym (drop_all i parts past)) ∙ so_far.are

@@ -18,7 +18,7 @@ use Rattle.pp_count.specs.Sums.{Seen, absolute, renamed, sum_where}
 use Rattle.pp_count.specs.Parts.{HasBelow}
 use Rattle.pp_count.specs.Table.{no_key, written_key}
 use Rattle.pp_calltree.specs.declared.branch.Branch.{Branch}
-use Rattle.pp_calltree.specs.declared.texts.Texts.{Texts}
+use Rattle.pp_calltree.specs.declared.texts.NameTexts.{NameTexts}
 use Rattle.pp_calltree.specs.declared.tree.NumberedNode.{NumberedNode}
 use Rattle.pp_calltree.specs.declared.tree.PathNode.{PathNode}
 use Rattle.pp_calltree.specs.declared.path.Path.{Path}
@@ -42,7 +42,7 @@ flat_map-mapped F g H (x ∷ xs) all =
     ∙ (λ i. All-head (λ y. F (g y) ≡ H y) x xs all i ++ flat_map-mapped F g H xs (All-tail (λ y. F (g y) ≡ H y) x xs all) i)
     ∙ sym (flat_map-cons H x xs)
 
-module _ (p : Profile) (names : List Key) (texts : Texts) (can : CanLay p names texts) where
+module _ (p : Profile) (names : List Key) (texts : NameTexts) (can : CanLay p names texts) where
   abbrev name : ℕ → Written
   name = written_key p names
 
@@ -164,7 +164,7 @@ pub record Laying (p : Profile) (names : List Key) (samples : List (Seen ℕ)) (
   pub keys : All (λ n. IsKeyOf p n.key) (nodes_by names nodes)
   pub sizes : sum_by (λ n. nat_abs n.flat) (nodes_by names nodes) + sum_by (λ b. absolute (branch_samples b)) waiting ≤ absolute samples
 
-module _ (p : Profile) (names : List Key) (texts : Texts) (can : CanLay p names texts) (paths : List Path) where
+module _ (p : Profile) (names : List Key) (texts : NameTexts) (can : CanLay p names texts) (paths : List Path) where
   abbrev S : List (Seen ℕ)
   S = below 0 paths
 

@@ -16,7 +16,7 @@ use Rattle.pp_count.specs.Table.{no_key, written_key}
 use Rattle.pp_calltree.specs.declared.branch.Branch.{Branch}
 use Rattle.pp_calltree.specs.declared.listing.PathSum.{PathSum}
 use Rattle.pp_calltree.specs.declared.path.Path.{Path}
-use Rattle.pp_calltree.specs.declared.texts.Texts.{Texts}
+use Rattle.pp_calltree.specs.declared.texts.NameTexts.{NameTexts}
 use Rattle.pp_calltree.specs.Branches.{Said, branch_samples}
 use Rattle.pp_calltree.specs.CallPaths.{CallPath, all_paths, has_sum, path_written, paths_below, HasKeysOf}
 use Rattle.pp_calltree.specs.CallTree.{all_lengths, is_end}
@@ -113,7 +113,7 @@ module _ (p : Profile) (names : List Key) (most : ℕ) where
     }
 
   -- The branches that are added below these keys: the paths that go on from there, and that they can be listed.
-  module _ (texts : Texts) (can : CanLay p names texts) (depth left : ℕ) (above : List ℕ) (paths : List Path) (old new : List Branch) (room : HasRoom names left (below depth paths))
+  module _ (texts : NameTexts) (can : CanLay p names texts) (depth left : ℕ) (above : List ℕ) (paths : List Path) (old new : List Branch) (room : HasRoom names left (below depth paths))
       (same : most ≡ depth + left) (deep : length above ≡ depth) (begin : All (BeginsWith above) paths) (known_above : All (λ k. k < length names) above)
       (adds : AddsBranches texts depth paths old new) where
     on : All (GoesOnFrom above) adds.branches
@@ -133,7 +133,7 @@ module _ (p : Profile) (names : List Key) (most : ℕ) where
         record { layable = layable; trailed = is_trailed (length names) above (get_or adds.branches i d) (depths i d here) (on i d here) known_above layable.key_below }
 
   -- The path of the branch is listed, and those below it wait.
-  pub passes_more : (texts : Texts) → CanLay p names texts → (b : Branch) (path : PathSum) (old new : List Branch) (before after : List PathSum) → IsListable names most b
+  pub passes_more : (texts : NameTexts) → CanLay p names texts → (b : Branch) (path : PathSum) (old new : List Branch) (before after : List PathSum) → IsListable names most b
       → path.keys.now ≡ trail b → path.sum ≡ b.flat → after ≡ before ++ unless_zero path → AddsBranches texts (b.depth + 1) b.paths.now old new
       → PassesOn p names most b old new before after
   passes_more texts can b path old new before after listable keys_are sum_is lists adds =
@@ -173,7 +173,7 @@ module _ (p : Profile) (names : List Key) (all : List Path) where
   all_summed = filter has_sum (all_paths key_cmp (written_out p names S))
 
   -- the branches of all samples wait
-  pub listing_start : (texts : Texts) → CanLay p names texts → (new : List Branch) (paths : List PathSum) → HasRoom names most S → paths ≡ [] → AddsBranches texts 0 all [] new
+  pub listing_start : (texts : NameTexts) → CanLay p names texts → (new : List Branch) (paths : List PathSum) → HasRoom names most S → paths ≡ [] → AddsBranches texts 0 all [] new
       → Listing p names S paths new
   listing_start texts can new paths room none adds =
       let same : most ≡ 0 + most = omega arith in

@@ -8,12 +8,12 @@ use Rattle.pp_grain.specs.declared.key.Key.{Key}
 use Rattle.pp_grain.specs.Keys.{key_written, IsKeyOf}
 use Rattle.pp_count.specs.Table.{no_key}
 use Rattle.pp_count.proofs.Keyed.{apart}
-use Rattle.pp_calltree.specs.declared.texts.Texts.{Texts}
+use Rattle.pp_calltree.specs.declared.texts.NameTexts.{NameTexts}
 use Rattle.pp_calltree.specs.Laid.{CanLay}
 use Rattle.pp_calltree.specs.Siblings.{no_written}
 
 -- with the texts of all names, branches can be laid out
-pub can_lay : (texts : Texts) → IsCompact texts.p.now → All (IsKeyOf texts.p.now) texts.names.now → AllPairs (λ a b. a ≢ b) texts.names.now
+pub can_lay : (texts : NameTexts) → IsCompact texts.p.now → All (IsKeyOf texts.p.now) texts.names.now → AllPairs (λ a b. a ≢ b) texts.names.now
     → CanLay texts.p.now texts.names.now texts
 can_lay texts compact keys distinct = record {
   apart = apart texts.p.now compact texts.names.now keys distinct;

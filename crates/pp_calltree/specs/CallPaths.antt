@@ -60,7 +60,7 @@ HasKeysOf p names path = All (λ k. IsKeyOf p (key_numbered names k)) path.keys.
 -- The paths are those of the report whose sums aren't 0. All keys are keys of the profile.
 pub record ArePathsOf (l : Loaded) (v : Verdicts) (config : Config) (column : Option ℕ)
     (names : List Key) (paths : List PathSum) : Type 0 where
-  pub are : (f : Finders) → HoldsFilters l v config f
+  pub are : (f : Finders) → HoldsFilters l v config.filtering f
       → map (path_written l.profile names) paths
       ≡ filter has_sum (report_paths l.profile f config column)
   pub keys : All (HasKeysOf l.profile names) paths

@@ -107,5 +107,5 @@ tree_nodes p f config column = tree_rows key_cmp any_row (path_samples p f confi
 -- The nodes that are shown: those that are heavy, and that stand below none that is not.
 abbrev pub shown_nodes : Profile → Finders → Config → Option ℕ → ℕ → List (TreeRow Written)
 shown_nodes p f config column total =
-    tree_rows key_cmp (λ row. is_heavy total config.nodefraction.billionths row.cum)
+    tree_rows key_cmp (λ row. is_heavy total config.presentation.nodefraction.billionths row.cum)
     (path_samples p f config column)

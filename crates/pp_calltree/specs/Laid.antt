@@ -9,7 +9,7 @@ use Rattle.pp_count.specs.Sums.{Seen, absolute, renamed, sum_where}
 use Rattle.pp_count.specs.Parts.{HasBelow}
 use Rattle.pp_count.specs.Table.{written_key}
 use Rattle.pp_calltree.specs.declared.branch.Branch.{Branch}
-use Rattle.pp_calltree.specs.declared.texts.Texts.{Texts}
+use Rattle.pp_calltree.specs.declared.texts.NameTexts.{NameTexts}
 use Rattle.pp_calltree.specs.declared.tree.PathNode.{PathNode}
 use Rattle.pp_calltree.specs.Branches.{branch_samples}
 use Rattle.pp_calltree.specs.CallTree.{TreeRow, any_row, is_end, rows_below}
@@ -38,7 +38,7 @@ whole_branch p names most b =
     (written_out p names (branch_samples b))
 
 -- Different numbers are different keys, and the texts are those of the names.
-pub record CanLay (p : Profile) (names : List Key) (texts : Texts) : Type 0 where
+pub record CanLay (p : Profile) (names : List Key) (texts : NameTexts) : Type 0 where
   pub apart : (a b : ℕ) → a < length names → b < length names
       → eq_by_cmp key_cmp (written_key p names a) (written_key p names b) ≡ eq_by_cmp nat_cmp a b
   pub texts_are : (k : ℕ) → k < length names → texts_at texts k ≡ written_key p names k

@@ -11,7 +11,7 @@ use Rattle.pp_count.specs.Table.{written_key}
 use Rattle.pp_calltree.specs.declared.branch.Branch.{Branch}
 use Rattle.pp_calltree.specs.declared.listing.PathSum.{PathSum}
 use Rattle.pp_calltree.specs.declared.path.Path.{Path}
-use Rattle.pp_calltree.specs.declared.texts.Texts.{Texts}
+use Rattle.pp_calltree.specs.declared.texts.NameTexts.{NameTexts}
 use Rattle.pp_calltree.specs.Branches.{branch_samples, weight, HasBranches}
 use Rattle.pp_calltree.specs.CallPaths.{CallPath, has_sum, path_written, paths_below}
 use Rattle.pp_calltree.specs.Laid.{written_out, IsLayable}
@@ -33,7 +33,7 @@ GoOn depth paths branches =
     → All (GoesOnFrom above) branches
 
 -- The branches of the paths below `depth` keys are added as siblings stand, the last of them first.
-pub record AddsBranches (texts : Texts) (depth : ℕ) (paths : List Path) (old new : List Branch)
+pub record AddsBranches (texts : NameTexts) (depth : ℕ) (paths : List Path) (old new : List Branch)
     : Type 0 where
   pub branches : List Branch
   pub added : new ≡ old ++ reverse branches

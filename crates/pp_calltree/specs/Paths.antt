@@ -9,7 +9,7 @@ use Rattle.pp_model.specs.declared.profile.Sample.{Sample}
 use Rattle.pp_count.specs.declared.scope.Scope.{Scope}
 use Rattle.pp_count.specs.Sums.{Seen, weighed}
 use Rattle.pp_count.specs.Scope.{AreSeen}
-use Rattle.pp_calltree.specs.declared.path.Part.{Part}
+use Rattle.pp_calltree.specs.declared.path.PathPart.{PathPart}
 use Rattle.pp_calltree.specs.declared.path.Path.{Path}
 use Rattle.pp_calltree.specs.declared.paths.Paths.{Paths}
 use Rattle.pp_calltree.specs.CallTree.{rooted}
@@ -20,7 +20,7 @@ rooted_if value keys =
     if int_eq value (pos 0) then [] else rooted (record { value = value; keys = keys }) ∷ []
 
 -- the samples that have these parts of the keys
-abbrev pub parts_of : List ℕ → List Part → List (Seen ℕ)
+abbrev pub parts_of : List ℕ → List PathPart → List (Seen ℕ)
 parts_of keys [] = []
 parts_of keys (s ∷ parts) =
     record { value = s.value; keys = take s.len keys } ∷ parts_of (drop s.len keys) parts
@@ -28,7 +28,7 @@ parts_of keys (s ∷ parts) =
 -- The parts are those of the samples, and no key is left.
 pub record AreKeptAs (paths : Paths) (samples : List (Seen ℕ)) : Type 0 where
   pub are : parts_of paths.keys.items paths.parts.items ≡ samples
-  pub whole : sum_by (λ (s : Part). s.len) paths.parts.items ≡ length paths.keys.items
+  pub whole : sum_by (λ (s : PathPart). s.len) paths.parts.items ≡ length paths.keys.items
 
 -- The paths are those of what the report sees of the samples, by key numbers.
 pub record HasPaths (scope : Scope) (samples : List Sample) (paths : Paths) : Type 0 where

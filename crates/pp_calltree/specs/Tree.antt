@@ -66,7 +66,7 @@ flats_at p nodes k = flats_with k (map (node_row p) nodes)
 -- The nodes are those of the report's call tree. All keys are keys of the profile, and the flats can be added up.
 pub record IsTreeOf (l : Loaded) (v : Verdicts) (config : Config) (column : Option ℕ)
     (nodes : List PathNode) : Type 0 where
-  pub rows : (f : Finders) → HoldsFilters l v config f
+  pub rows : (f : Finders) → HoldsFilters l v config.filtering f
       → map (node_row l.profile) nodes ≡ tree_nodes l.profile f config column
   pub keys : All (λ n. IsKeyOf l.profile n.key) nodes
   pub fits : sum_by (λ n. nat_abs n.flat) nodes < 2 ^ 63

@@ -9,7 +9,6 @@ ghost use Rattle.pp_model.specs.Finders.{Finders};
 ghost use Rattle.pp_count.specs.Seeing.{HoldsFilters};
 ghost use Rattle.pp_count.specs.Scope.{samples_in_scope};
 ghost use Rattle.pp_count.specs.Counts.{written_names};
-ghost use Rattle.pp_count.specs.Counted.{CanCount, IsCountedOf};
 ghost use Rattle.pp_calltree.specs.CallPaths.{ArePathsOf};
 ghost use Rattle.pp_calltree.specs.Gathered.{samples_of_paths, AreGathered, ChoosesKept, IsScopeOf};
 ghost use Rattle.pp_calltree.specs.Links.{nodes_by};
@@ -24,9 +23,8 @@ use crate::path::{Path, cut_paths, sort_paths};
 use crate::paths::{Paths, gather_range};
 use crate::tree::{CallTree, NumberedNode, PathNodes};
 use pp_base::{Gate, List, Memory};
-use pp_count::{Counted, Scope, Survey};
+use pp_count::{Scope, Survey};
 use pp_grain::Names;
-use pp_model::{Config, Loaded, Verdicts};
 use std::alloc::Global;
 use std::mem;
 use std::thread::Threads;
@@ -122,35 +120,24 @@ impl<'a> CallTree<'a> {
     /// Builds the tree of the counted samples that put keys into the report. `Err` is want of memory.
     ///
     /// Siblings, and roots, stand by absolute cum falling, then by absolute flat falling, then by the order of keys.
-    pub fn build(
-        alloc: Global,
-        l: &'a Loaded,
-        v: &'a Verdicts,
-        c: &'a Counted,
-        config: &'a Config,
-        column: Option<u32>,
-    ) -> Result<CallTree<'a>, Memory>
-        requires can { CanCount l.now.profile v.now config.now column }
-        requires counted { IsCountedOf l.now v.now config.now column c.now }
-        ensures tree { IfOk result (IsTreeOf l.now v.now config.now column) }
+    pub fn build(alloc: Global, survey: &Survey<'a>) -> Result<CallTree<'a>, Memory>
+        ensures tree { IfOk result (IsTreeOf survey.now.l.now survey.now.v.now survey.now.config.now
+            survey.now.column) }
 
         // First children and next siblings walk the paths of the samples that put keys into the report.
-        ensures walk { (f : Finders) → HoldsFilters l.now v.now config.now f →
-            IfOk result (IsWalkOf l.now.profile f config.now column) }
+        ensures walk { (f : Finders) →
+            HoldsFilters survey.now.l.now survey.now.v.now survey.now.config.now.filtering f →
+            IfOk result (IsWalkOf survey.now.l.now.profile f survey.now.config.now
+            survey.now.column) }
 
         // For each name of the sums, the flats of its nodes add up to its flat.
-        ensures flats { (f : Finders) → HoldsFilters l.now v.now config.now f →
-            IfOk result (λ t. map (flats_at l.now.profile t) (written_names l.now.profile c.now.sums)
-            ≡ c.now.sums.flat) }
+        ensures flats { (f : Finders) →
+            HoldsFilters survey.now.l.now survey.now.v.now survey.now.config.now.filtering f →
+            IfOk result (λ t. map (flats_at survey.now.l.now.profile t)
+            (written_names survey.now.l.now.profile survey.now.counted.now.sums)
+            ≡ survey.now.counted.now.sums.flat) }
     {
-        let survey = Survey {
-            l,
-            v,
-            config,
-            column,
-            counted: c,
-        };
-        let gathered = ReportPaths::gather_alone(alloc, &survey)?;
+        let gathered = ReportPaths::gather_alone(alloc, survey)?;
         let tree = PathNodes::of(alloc, gathered)?;
         let parents = tree.parents(alloc)?;
         let nexts = tree.nexts(alloc)?;
@@ -204,6 +191,7 @@ fn scope_of<'a>(survey: &Survey<'a>) -> Scope<'a>
         l: survey.l,
         v: survey.v,
         config: survey.config,
+        grouping: survey.config.grouping,
         filters: survey.filters(),
         column: survey.column,
         table: survey.table(),

@@ -78,7 +78,7 @@ pub fn gather_paths<'x, R: Threads + Sync, G: Gate>(
     requires counts { count ≡ length (samples_in_scope scope.now) }
     ensures { IfOk result (HasPaths scope.now (samples_in_scope scope.now)) }
 {
-    if scope.config.workers == 1 {
+    if scope.config.environment.workers == 1 {
         return gather_range(alloc, scope, 0, count);
     }
     let mut paths = Paths::none(alloc);
@@ -132,7 +132,7 @@ fn gather_wave<R: Threads + Sync, G: Gate>(
     ensures { IfOk result (λ _. HasPaths job.now.scope
         (take (PIECE * (job.now.first + job.now.pieces)) (samples_in_scope job.now.scope)) paths.new) }
 {
-    let workers = job.scope.config.workers;
+    let workers = job.scope.config.environment.workers;
     let parts = run_pieces(rt, job.alloc, job, job.pieces, workers, Deal::Round, gate)?;
     for part in parts.as_slice() {
         paths.join(part)?;

@@ -14,7 +14,7 @@ ghost use Rattle.pp_calltree.specs.Paths.{below, IsRising};
 use crate::branch::Branch;
 use crate::path::{Path, node_count};
 use crate::siblings::push_branches;
-use crate::texts::Texts;
+use crate::texts::NameTexts;
 use crate::tree::NumberedNode;
 use pp_base::{List, Memory};
 use pp_grain::Names;
@@ -39,7 +39,7 @@ pub fn lay_out(
     ensures fits { IfOk result (λ nodes.
         sum_by (λ n. nat_abs n.flat) (nodes_by names.now nodes) < 2 ^ 63) }
 {
-    let texts = Texts::new(p, names);
+    let texts = NameTexts::new(p, names);
     let mut found = Vec::new(alloc);
     let mut waiting = Vec::new(alloc);
     push_branches(&texts, paths, 0, &mut found, &mut waiting)?;
@@ -52,7 +52,7 @@ pub fn lay_out(
 
 // Adds the node of the branch, and has the branches below it wait.
 fn put_node<'p, 'k>(
-    texts: &Texts,
+    texts: &NameTexts,
     branch: &Branch<'p, 'k>,
     found: &mut Vec<Branch<'p, 'k>>,
     waiting: &mut Vec<Branch<'p, 'k>>,

@@ -16,7 +16,7 @@ ghost use Rattle.pp_calltree.specs.Paths.{below, IsRising};
 use crate::branch::Branch;
 use crate::path::Path;
 use crate::siblings::push_branches;
-use crate::texts::Texts;
+use crate::texts::NameTexts;
 use pp_base::Memory;
 use pp_grain::Names;
 use pp_model::Profile;
@@ -47,7 +47,7 @@ pub fn list_paths<'k>(
         ≡ filter has_sum (all_paths key_cmp (written_out p.now names.now (below 0 paths.now)))) }
     ensures keys { IfOk result (λ sums. All (HasKeysOf p.now names.now) sums.items) }
 {
-    let texts = Texts::new(p, names);
+    let texts = NameTexts::new(p, names);
     let mut found = Vec::new(alloc);
     let mut waiting = Vec::new(alloc);
     push_branches(&texts, paths, 0, &mut found, &mut waiting)?;
@@ -61,7 +61,7 @@ pub fn list_paths<'k>(
 // Lists the path of the branch, if its sum isn't 0, and has the branches below it wait. Where one path alone goes
 // through the branch, none but the whole of it can have a sum: that is listed at once, and nothing waits.
 fn pass_on<'p, 'k>(
-    texts: &Texts,
+    texts: &NameTexts,
     branch: &Branch<'p, 'k>,
     found: &mut Vec<Branch<'p, 'k>>,
     waiting: &mut Vec<Branch<'p, 'k>>,

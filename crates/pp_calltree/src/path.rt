@@ -19,7 +19,7 @@ pub struct Path<'a> {
 
 /// What a path has of the keys of many, which stand one behind the other.
 #[derive(Clone, Copy, Debug)]
-pub struct Part {
+pub struct PathPart {
     /// The sample's value.
     pub value: i64,
     /// How many keys.
@@ -30,7 +30,7 @@ pub struct Part {
 pub fn cut_paths<'a>(
     alloc: Global,
     keys: &'a [u32],
-    parts: &[Part],
+    parts: &[PathPart],
 ) -> Result<Vec<Path<'a>>, Memory>
     requires { sum_by (λ s. s.len) parts.now ≤ length keys.now }
     ensures { IfOk result (λ paths. map path_of paths.items ≡ parts_of keys.now parts.now) }

@@ -6,7 +6,7 @@ ghost use Rattle.pp_count.specs.Sums.{Seen};
 ghost use Rattle.pp_calltree.specs.CallTree.{rooted};
 ghost use Rattle.pp_calltree.specs.Paths.{rooted_if, AreKeptAs, HasPaths};
 
-use crate::path::Part;
+use crate::path::PathPart;
 use pp_base::{List, Memory};
 use pp_count::{Scope, sample_at, see, selected};
 use pp_model::Sample;
@@ -18,7 +18,7 @@ pub struct Paths {
     /// The key numbers of all paths, each root first.
     pub keys: Vec<u32>,
     /// Which of these each path has, in order.
-    pub parts: Vec<Part>,
+    pub parts: Vec<PathPart>,
 }
 
 impl Paths {
@@ -49,7 +49,7 @@ impl Paths {
             (samples ++ rooted (record { value = value; keys = keys.now }) ∷ [])) }
     {
         put_rooted(keys, &mut self.keys)?;
-        self.parts.push(Part {
+        self.parts.push(PathPart {
             value,
             len: keys.len(),
         })?;
@@ -93,9 +93,15 @@ fn add_sample(scope: &Scope, paths: &mut Paths, sample: &Sample, keys: &[u64]) -
     requires { IsSoundScope scope.now }
     ensures { (samples : Seq (Seen ℕ)) → AreKeptAs paths.old samples →
         IfOk result (λ _. AreKeptAs paths.new (samples ++ rooted_if
-        (selected scope.now.column scope.now.config.now.divide_by sample.now) keys.now)) }
+        (selected scope.now.column scope.now.config.now.presentation.divide_by sample.now)
+        keys.now)) }
 {
-    let value = selected(scope.l, sample, scope.column, scope.config.divide_by);
+    let value = selected(
+        scope.l,
+        sample,
+        scope.column,
+        scope.config.presentation.divide_by,
+    );
     add_path(paths, value, keys)
 }
 

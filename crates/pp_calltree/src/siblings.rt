@@ -10,14 +10,14 @@ ghost use Rattle.pp_calltree.specs.Siblings.{branch_cmp, size_cmp};
 use crate::branch::Branch;
 use crate::branching::find_branches;
 use crate::path::Path;
-use crate::texts::Texts;
+use crate::texts::NameTexts;
 use pp_base::Memory;
 use pp_grain::texts_order;
 use std::cmp::Ordering;
 
 /// Adds the branches of the paths below `depth` keys to `waiting`, the last one first. `found` is room for them.
 pub fn push_branches<'p, 'k>(
-    texts: &Texts,
+    texts: &NameTexts,
     paths: &'p [Path<'k>],
     depth: usize,
     found: &mut Vec<Branch<'p, 'k>>,
@@ -37,7 +37,7 @@ pub fn push_branches<'p, 'k>(
 }
 
 // Sorts the branches by absolute cum falling, then by absolute flat falling, then by the order of their keys.
-fn sort_branches(texts: &Texts, list: &mut Vec<Branch>) -> Result<(), Memory>
+fn sort_branches(texts: &NameTexts, list: &mut Vec<Branch>) -> Result<(), Memory>
     ensures sorted { OnOk result (IsSorted (branch_cmp texts.now) list.new.items) }
     ensures same { IsPermutation list.old.items list.new.items }
 {
@@ -45,7 +45,7 @@ fn sort_branches(texts: &Texts, list: &mut Vec<Branch>) -> Result<(), Memory>
     Ok(())
 }
 
-fn branch_order(texts: &Texts, a: &Branch, b: &Branch) -> Ordering
+fn branch_order(texts: &NameTexts, a: &Branch, b: &Branch) -> Ordering
     ensures { result ≡ branch_cmp texts.now a.now b.now }
 {
     let sums = sum_order(a, b);

@@ -7,7 +7,7 @@ use pp_model::Profile;
 
 /// The names whose texts are looked up.
 #[derive(Clone, Copy)]
-pub struct Texts<'a> {
+pub struct NameTexts<'a> {
     /// The profile whose texts they are.
     pub p: &'a Profile,
     /// The names, by number.
@@ -15,7 +15,7 @@ pub struct Texts<'a> {
     pub ghost of_profile: { All (IsKeyOf p.now) names.now },
 }
 
-impl<'a> Texts<'a> {
+impl<'a> NameTexts<'a> {
     ghost use Rattle.std.specs.Prelude.{◌≡◌, ◌≢◌, AllPairs};
     ghost use Rattle.pp_model.specs.Rules.{IsCompact};
     ghost use Rattle.pp_grain.specs.Told.{written_texts};
@@ -23,13 +23,13 @@ impl<'a> Texts<'a> {
     ghost use Rattle.pp_calltree.specs.Siblings.{texts_at};
 
     /// The texts of the names.
-    pub fn new(p: &'a Profile, names: &'a Names) -> Texts<'a>
+    pub fn new(p: &'a Profile, names: &'a Names) -> NameTexts<'a>
         requires compact { IsCompact p.now }
         requires keys { All (IsKeyOf p.now) names.now }
         requires distinct { AllPairs (λ a b. a ≢ b) names.now }
         ensures { CanLay p.now names.now result }
     {
-        Texts { p, names }
+        NameTexts { p, names }
     }
 
     /// The texts of the number, none where no name has it.

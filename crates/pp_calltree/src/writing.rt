@@ -37,7 +37,7 @@ pub fn write_calltree<R: Threads + Sync, G: Gate>(
     out: &mut Text,
 ) -> Result<(), Memory>
     ensures ok { (f : Finders) →
-        HoldsFilters survey.now.l.now survey.now.v.now survey.now.config.now f →
+        HoldsFilters survey.now.l.now survey.now.v.now survey.now.config.now.filtering f →
         OnOk result (out.new ≡ out.old ++ calltree_text survey.now.l.now.profile f
         survey.now.config.now survey.now.column (facts head.now)) }
     ensures err { OnErr result (out.new ≡ out.old) }
@@ -58,12 +58,12 @@ fn write_path_nodes(
     requires keys { All (λ n. IsKeyOf l.now.profile n.key) t.now }
     requires fits { flat_sizes t.now < 2 ^ 63 }
     ensures ok { (v : Verdicts) (column : Option ℕ) (f : Finders) →
-        IsTreeOf l.now v config.now column t.now → HoldsFilters l.now v config.now f →
+        IsTreeOf l.now v config.now column t.now → HoldsFilters l.now v config.now.filtering f →
         OnOk result (out.new
         ≡ out.old ++ calltree_text l.now.profile f config.now column (facts head.now)) }
     ensures err { OnErr result (out.new ≡ out.old) }
 {
-    let shown = shown_nodes(alloc, t, head.total, config.nodefraction)?;
+    let shown = shown_nodes(alloc, t, head.total, config.presentation.nodefraction)?;
     let dropped = t.len() - shown.len();
     let mut text = Text::new(alloc);
     put_tree(alloc, l, &shown, dropped, head, &mut text)?;

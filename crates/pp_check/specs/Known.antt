@@ -2,16 +2,16 @@
 use Rattle.std.specs.Prelude.{◌≡◌, ℕ, Bool, List, ◌==◌, ◌&&◌, ◌||◌, nat_eq, nat_lt, nat_le}
 use Rattle.std.specs.HashSet.{contains}
 use Rattle.pp_model.specs.Rules.{stands_in}
-use Rattle.pp_check.specs.declared.known.Known.{Known}
+use Rattle.pp_check.specs.declared.known.IdSet.{IdSet}
 
 -- the id is one of these
-abbrev pub holds : Known → ℕ → Bool
+abbrev pub holds : IdSet → ℕ → Bool
 holds known id = (nat_lt 0 id && nat_le id known.numbered) || contains nat_eq known.others id
 
 -- these are the ids of the list
-abbrev pub Knows : Known → List ℕ → Type 0
+abbrev pub Knows : IdSet → List ℕ → Type 0
 Knows known ids = (id : ℕ) → holds known id ≡ stands_in ids id
 
 -- the new ids are the old ones and this one
-abbrev pub Inserts : Known → Known → ℕ → Type 0
+abbrev pub Inserts : IdSet → IdSet → ℕ → Type 0
 Inserts old new added = (id : ℕ) → holds new id ≡ (holds old id || added == id)

@@ -5,7 +5,7 @@ ghost use Rattle.pp_model.specs.Rules.{location_ids};
 ghost use Rattle.pp_check.specs.Known.{Knows};
 ghost use Rattle.pp_check.specs.Sound.{is_sound};
 
-use crate::known::Known;
+use crate::known::IdSet;
 use crate::references::is_whole;
 use crate::texts::sample_has_texts;
 use pp_base::Memory;
@@ -22,7 +22,7 @@ pub(crate) struct Asking<'a> {
     /// The profile.
     pub(crate) p: &'a Profile,
     /// The ids of its locations.
-    pub(crate) locations: &'a Known,
+    pub(crate) locations: &'a IdSet,
     pub ghost known: { Knows locations.now (location_ids p.now) },
 }
 
@@ -78,7 +78,7 @@ impl Piecewise<Sample> for Asking<'_> {
 }
 
 // Whether all of these samples are sound.
-fn are_sound(p: &Profile, locations: &Known, samples: &[Sample]) -> bool
+fn are_sound(p: &Profile, locations: &IdSet, samples: &[Sample]) -> bool
     requires { Knows locations.now (location_ids p.now) }
     ensures { result ≡ list_all (is_sound p.now) samples.now }
 {
@@ -86,7 +86,7 @@ fn are_sound(p: &Profile, locations: &Known, samples: &[Sample]) -> bool
 }
 
 // Whether the sample breaks none of rules 2, 11 and 12.
-fn is_sound(p: &Profile, locations: &Known, sample: &Sample) -> bool
+fn is_sound(p: &Profile, locations: &IdSet, sample: &Sample) -> bool
     requires { Knows locations.now (location_ids p.now) }
     ensures { result ≡ is_sound p.now sample.now }
 {

@@ -9,9 +9,9 @@ ghost use Rattle.pp_model.specs.Rules.{mapping_ids, function_ids, location_ids};
 
 use crate::fault::{CheckRefusal, Table, TableFault, refuse};
 use crate::ids::known_ids;
-use crate::known::Known;
+use crate::known::IdSet;
 use crate::references::{location_fault, sample_fault, value_fault};
-use crate::samples::Samples;
+use crate::samples::Soundness;
 use crate::texts::{
     comment_text_fault, function_text_fault, header_text_fault, mapping_text_fault,
     sample_text_fault, text_zero_fault, type_text_fault, untyped_fault,
@@ -27,7 +27,7 @@ pub fn first_fault(alloc: Global, p: &Profile) -> Result<Option<TableFault>, Mem
     requires { IsIndexed p.now }
     ensures { IfOk result (λ fault. fault ≡ first_fault p.now) }
 {
-    match try_rules(alloc, HashKeys::fixed(), p, Samples::Unasked) {
+    match try_rules(alloc, HashKeys::fixed(), p, Soundness::Unasked) {
         Ok(()) => Ok(None),
         Err(CheckRefusal::Fault(fault)) => Ok(Some(fault)),
         Err(CheckRefusal::Memory) => Err(Memory),
@@ -39,7 +39,7 @@ pub fn check(alloc: Global, p: Profile) -> Result<Valid, CheckRefusal>
     requires { IsIndexed p }
     ensures { Checks p result }
 {
-    try_rules(alloc, HashKeys::fixed(), &p, Samples::Unasked)?;
+    try_rules(alloc, HashKeys::fixed(), &p, Soundness::Unasked)?;
     Ok(Valid::claim(p))
 }
 
@@ -48,10 +48,10 @@ pub(crate) fn try_rules(
     alloc: Global,
     keys: HashKeys,
     p: &Profile,
-    samples: Samples,
+    samples: Soundness,
 ) -> Result<(), CheckRefusal>
     requires indexed { IsIndexed p.now }
-    requires sound { samples ≡ Samples.Sound → HasSoundSamples p.now }
+    requires sound { samples ≡ Soundness.Sound → HasSoundSamples p.now }
     ensures { AnswersFault (first_fault p.now) result }
 {
     try_texts(p, samples)?;
@@ -61,9 +61,9 @@ pub(crate) fn try_rules(
 }
 
 // Tries rules 1 to 3. Sound samples are left out.
-fn try_texts(p: &Profile, samples: Samples) -> Result<(), TableFault>
+fn try_texts(p: &Profile, samples: Soundness) -> Result<(), TableFault>
     requires indexed { IsIndexed p.now }
-    requires sound { samples ≡ Samples.Sound → HasSoundSamples p.now }
+    requires sound { samples ≡ Soundness.Sound → HasSoundSamples p.now }
     ensures { FindsFault (first_fault_of (text_faults p.now)) result }
 {
     refuse(1, Table::Texts, text_zero_fault(p))?;
@@ -77,7 +77,7 @@ fn try_texts(p: &Profile, samples: Samples) -> Result<(), TableFault>
 }
 
 // Tries rules 4 and 5. Gives the ids of the mappings.
-fn known_mappings(alloc: Global, keys: HashKeys, p: &Profile) -> Result<Known, CheckRefusal>
+fn known_mappings(alloc: Global, keys: HashKeys, p: &Profile) -> Result<IdSet, CheckRefusal>
     requires { IsIndexed p.now }
     ensures faults { AnswersFault (first_fault_of (mapping_faults p.now)) result }
     ensures known { IfOk result (λ known. Knows known (mapping_ids p.now)) }
@@ -86,7 +86,7 @@ fn known_mappings(alloc: Global, keys: HashKeys, p: &Profile) -> Result<Known, C
 }
 
 // Tries rules 6 and 7. Gives the ids of the functions.
-fn known_functions(alloc: Global, keys: HashKeys, p: &Profile) -> Result<Known, CheckRefusal>
+fn known_functions(alloc: Global, keys: HashKeys, p: &Profile) -> Result<IdSet, CheckRefusal>
     requires { IsIndexed p.now }
     ensures faults { AnswersFault (first_fault_of (function_faults p.now)) result }
     ensures known { IfOk result (λ known. Knows known (function_ids p.now)) }
@@ -99,17 +99,17 @@ fn try_locations(
     alloc: Global,
     keys: HashKeys,
     p: &Profile,
-    mappings: &Known,
-    functions: &Known,
-    samples: Samples,
+    mappings: &IdSet,
+    functions: &IdSet,
+    samples: Soundness,
 ) -> Result<(), CheckRefusal>
     requires indexed { IsIndexed p.now }
     requires mappings { Knows mappings.now (mapping_ids p.now) }
     requires functions { Knows functions.now (function_ids p.now) }
-    requires sound { samples ≡ Samples.Sound → HasSoundSamples p.now }
+    requires sound { samples ≡ Soundness.Sound → HasSoundSamples p.now }
     ensures { AnswersFault (first_fault_of (location_faults p.now ++ reference_faults p.now)) result }
 {
-    if let Samples::Sound = samples {
+    if let Soundness::Sound = samples {
         refuse(10, Table::Locations, location_fault(p, mappings, functions))?;
         return Ok(());
     }
@@ -123,7 +123,7 @@ pub(crate) fn known_locations(
     alloc: Global,
     keys: HashKeys,
     p: &Profile,
-) -> Result<Known, CheckRefusal>
+) -> Result<IdSet, CheckRefusal>
     requires { IsIndexed p.now }
     ensures faults { AnswersFault (first_fault_of (location_faults p.now)) result }
     ensures known { IfOk result (λ known. Knows known (location_ids p.now)) }
@@ -134,9 +134,9 @@ pub(crate) fn known_locations(
 // Tries rules 10 to 12.
 fn try_references(
     p: &Profile,
-    mappings: &Known,
-    functions: &Known,
-    locations: &Known,
+    mappings: &IdSet,
+    functions: &IdSet,
+    locations: &IdSet,
 ) -> Result<(), TableFault>
     requires indexed { IsIndexed p.now }
     requires mappings { Knows mappings.now (mapping_ids p.now) }

@@ -6,7 +6,7 @@ ghost use Rattle.pp_check.specs.FirstFault.{id_faults};
 ghost use Rattle.pp_check.specs.Finds.{first_fault_of, AnswersFault};
 
 use crate::fault::{CheckRefusal, Table, refuse};
-use crate::known::Known;
+use crate::known::IdSet;
 use pp_base::Memory;
 use pp_keys::HashKeys;
 use pp_model::HasId;
@@ -20,14 +20,14 @@ pub fn known_ids<T: HasId>(
     rule: u8,
     table: Table,
     items: &[T],
-) -> Result<Known, CheckRefusal>
+) -> Result<IdSet, CheckRefusal>
     requires numbers { rule < 255 }
     requires indexed { length items.now < 2 ^ 32 }
     ensures faults { AnswersFault (first_fault_of (id_faults rule table (map T.id_of items.now))) result }
     ensures known { IfOk result (λ known. Knows known (map T.id_of items.now)) }
 {
     refuse(rule, table, zero_id(items))?;
-    let mut known = Known::new(alloc, keys);
+    let mut known = IdSet::new(alloc, keys);
     refuse(rule + 1, table, repeated_id(items, &mut known)?)?;
     Ok(known)
 }
@@ -48,7 +48,7 @@ fn is_id(id: u64) -> bool
 }
 
 // The least index of an id that stands earlier. Where there is none, all ids are known afterwards.
-fn repeated_id<T: HasId>(items: &[T], known: &mut Known) -> Result<Option<usize>, Memory>
+fn repeated_id<T: HasId>(items: &[T], known: &mut IdSet) -> Result<Option<usize>, Memory>
     requires { Knows known.old [] }
     ensures fault { IfOk result (λ found. found ≡ first_repeated (map T.id_of items.now)) }
     ensures within { IfOk result (λ found. IfSome found (λ index. index < length items.now)) }

@@ -9,17 +9,17 @@ use std::collections::HashSet;
 
 /// The ids from 1 up to a number, and others. A table whose ids are places plus 1 has no others.
 #[derive(Drop)]
-pub struct Known {
+pub struct IdSet {
     numbered: u64,
     others: HashSet<u64, HashKeys>,
 }
 
-impl Known {
+impl IdSet {
     /// No ids. It takes no memory.
     pub fn new(alloc: Global, keys: HashKeys) -> Self
         ensures { Knows result [] }
     {
-        Known {
+        IdSet {
             numbered: 0,
             others: HashSet::with_hasher(alloc, keys),
         }

@@ -9,8 +9,8 @@ ghost use Rattle.pp_check.specs.Sound.{IsAsked, IsAskedAhead};
 use crate::asking::{Asked, Asking};
 use crate::checking::{known_locations, try_rules};
 use crate::fault::CheckRefusal;
-use crate::known::Known;
-use crate::samples::Samples;
+use crate::known::IdSet;
+use crate::samples::Soundness;
 use pp_base::Memory;
 use pp_model::{Profile, Valid};
 use pp_share::Hashed;
@@ -28,7 +28,7 @@ pub fn check_on<R: Threads + Sync>(
     ensures { Checks p result }
 {
     let asked = ask_on(with, &p)?;
-    try_rules(with.alloc, with.keys, &p, Samples::known(asked.sound))?;
+    try_rules(with.alloc, with.keys, &p, Soundness::known(asked.sound))?;
     Ok(Hashed::claim(Valid::claim(p), asked.hashes))
 }
 
@@ -48,7 +48,7 @@ fn ask_on<R: Threads + Sync>(with: &Resources<'_, R>, p: &Profile) -> Result<Ask
 fn ask_samples<R: Threads + Sync>(
     with: &Resources<'_, R>,
     p: &Profile,
-    locations: &Known,
+    locations: &IdSet,
 ) -> Result<Asked, Memory>
     requires { Knows locations.now (location_ids p.now) }
     ensures { IfOk result (IsAsked p.now p.now.sample) }

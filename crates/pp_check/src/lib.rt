@@ -7,8 +7,8 @@
 //! sample's locations are there. Rule 12: each sample has one value per sample type.
 //!
 //! `checking` is the file to begin with: the rules in the order in which they decide, over `texts`, `ids` and `references`.
-//! Samples are many, so `check_on` (`lanes`) asks each of them for all its rules in one walk, on several lanes, and
-//! hashes it for merging (`asking`). Where they break none, they are left out later (`samples`).
+//! Samples are many, so `check_on` (`lanes`) tries all rules on each of them in one walk, on several lanes. The walk
+//! also hashes them for merging (`asking`). Where they break no rule, they are left out later (`samples`).
 #![tactic(auto)]
 
 mod asking;

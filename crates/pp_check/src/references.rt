@@ -5,11 +5,11 @@ ghost use Rattle.pp_model.specs.Rules as rules;
 ghost use Rattle.pp_check.specs.Known.{Knows};
 ghost use Rattle.pp_check.specs.Whole.{is_whole};
 
-use crate::known::Known;
+use crate::known::IdSet;
 use pp_model::{Line, Location, Profile, Sample};
 
 // Whether the mapping is 0, for none, or there.
-fn mapping_refers(p: &Profile, mappings: &Known, id: u64) -> bool
+fn mapping_refers(p: &Profile, mappings: &IdSet, id: u64) -> bool
     requires { Knows mappings.now (rules.mapping_ids p.now) }
     ensures { result ≡ rules.is_zero_or_in (rules.mapping_ids p.now) id }
 {
@@ -17,7 +17,7 @@ fn mapping_refers(p: &Profile, mappings: &Known, id: u64) -> bool
 }
 
 // Whether the line's function is 0, for none, or there.
-fn line_refers(p: &Profile, functions: &Known, line: &Line) -> bool
+fn line_refers(p: &Profile, functions: &IdSet, line: &Line) -> bool
     requires { Knows functions.now (rules.function_ids p.now) }
     ensures { result ≡ rules.is_zero_or_in (rules.function_ids p.now) line.now.function_id }
 {
@@ -25,7 +25,7 @@ fn line_refers(p: &Profile, functions: &Known, line: &Line) -> bool
 }
 
 // Whether the functions of the location's lines are 0 or there.
-fn lines_refer(p: &Profile, functions: &Known, location: &Location) -> bool
+fn lines_refer(p: &Profile, functions: &IdSet, location: &Location) -> bool
     requires { Knows functions.now (rules.function_ids p.now) }
     ensures { result ≡ list_all
         (λ line. rules.is_zero_or_in (rules.function_ids p.now) line.function_id)
@@ -39,7 +39,7 @@ fn lines_refer(p: &Profile, functions: &Known, location: &Location) -> bool
 }
 
 // Whether the location's mapping and its lines' functions are 0 or there.
-fn location_refers(p: &Profile, mappings: &Known, functions: &Known, location: &Location) -> bool
+fn location_refers(p: &Profile, mappings: &IdSet, functions: &IdSet, location: &Location) -> bool
     requires mappings { Knows mappings.now (rules.mapping_ids p.now) }
     requires functions { Knows functions.now (rules.function_ids p.now) }
     ensures { result ≡ rules.location_refers p.now location.now }
@@ -48,7 +48,7 @@ fn location_refers(p: &Profile, mappings: &Known, functions: &Known, location: &
 }
 
 /// Rule 10: the least index of a location whose mapping or functions are neither 0 nor there.
-pub fn location_fault(p: &Profile, mappings: &Known, functions: &Known) -> Option<usize>
+pub fn location_fault(p: &Profile, mappings: &IdSet, functions: &IdSet) -> Option<usize>
     requires mappings { Knows mappings.now (rules.mapping_ids p.now) }
     requires functions { Knows functions.now (rules.function_ids p.now) }
     ensures fault { result ≡ rules.location_fault p.now }
@@ -60,7 +60,7 @@ pub fn location_fault(p: &Profile, mappings: &Known, functions: &Known) -> Optio
 }
 
 // Whether the location is there.
-fn is_location(p: &Profile, locations: &Known, id: u64) -> bool
+fn is_location(p: &Profile, locations: &IdSet, id: u64) -> bool
     requires { Knows locations.now (rules.location_ids p.now) }
     ensures { result ≡ rules.stands_in (rules.location_ids p.now) id }
 {
@@ -68,7 +68,7 @@ fn is_location(p: &Profile, locations: &Known, id: u64) -> bool
 }
 
 // Whether the sample's locations are there.
-fn sample_refers(p: &Profile, locations: &Known, sample: &Sample) -> bool
+fn sample_refers(p: &Profile, locations: &IdSet, sample: &Sample) -> bool
     requires { Knows locations.now (rules.location_ids p.now) }
     ensures { result ≡ list_all
         (rules.stands_in (rules.location_ids p.now)) sample.now.location_id }
@@ -81,7 +81,7 @@ fn sample_refers(p: &Profile, locations: &Known, sample: &Sample) -> bool
 }
 
 /// Whether the sample's locations are there, and it has one value per sample type.
-pub fn is_whole(p: &Profile, locations: &Known, sample: &Sample) -> bool
+pub fn is_whole(p: &Profile, locations: &IdSet, sample: &Sample) -> bool
     requires { Knows locations.now (rules.location_ids p.now) }
     ensures { result ≡ is_whole p.now sample.now }
 {
@@ -89,7 +89,7 @@ pub fn is_whole(p: &Profile, locations: &Known, sample: &Sample) -> bool
 }
 
 /// Rule 11: the least index of a sample with a location that isn't there.
-pub fn sample_fault(p: &Profile, locations: &Known) -> Option<usize>
+pub fn sample_fault(p: &Profile, locations: &IdSet) -> Option<usize>
     requires { Knows locations.now (rules.location_ids p.now) }
     ensures fault { result ≡ rules.sample_fault p.now }
     ensures within { IfSome result (λ index. index < length p.now.sample) }

@@ -3,22 +3,22 @@ ghost use Rattle.std.specs.Prelude.{◌≡◌, IsTrue};
 
 /// Whether the samples of a profile, and the ids of its locations, have to be asked for their rules.
 #[derive(Clone, Copy, Debug, Drop, PartialEq, Eq)]
-pub(crate) enum Samples {
+pub(crate) enum Soundness {
     /// They were asked and break no rule, so they are left out.
     Sound,
     /// They may break a rule.
     Unasked,
 }
 
-impl Samples {
+impl Soundness {
     /// What is known where `sound` says whether they break no rule.
-    pub(crate) fn known(sound: bool) -> Samples
-        ensures { result ≡ Samples.Sound → IsTrue sound }
+    pub(crate) fn known(sound: bool) -> Soundness
+        ensures { result ≡ Soundness.Sound → IsTrue sound }
     {
         if sound {
-            Samples::Sound
+            Soundness::Sound
         } else {
-            Samples::Unasked
+            Soundness::Unasked
         }
     }
 }

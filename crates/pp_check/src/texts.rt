@@ -3,7 +3,7 @@ ghost use Rattle.std.specs.Prelude.{◌≡◌, ℤ, ◌<◌, length, IfSome};
 ghost use Rattle.std.specs.List.{list_all};
 ghost use Rattle.pp_model.specs.Rules as rules;
 
-use crate::samples::Samples;
+use crate::samples::Soundness;
 use pp_model::{Function, Label, Mapping, Profile, Sample, ValueType};
 
 /// Rule 1: index 0, unless there is a text 0 and it is empty.
@@ -89,12 +89,12 @@ pub fn sample_has_texts(p: &Profile, sample: &Sample) -> bool
 }
 
 /// Rule 2: the least index of a sample with a label whose key, text or unit is no text. Sound samples are not asked.
-pub(crate) fn sample_text_fault(p: &Profile, samples: Samples) -> Option<usize>
-    requires { samples ≡ Samples.Sound → rules.sample_text_fault p.now ≡ None }
+pub(crate) fn sample_text_fault(p: &Profile, samples: Soundness) -> Option<usize>
+    requires { samples ≡ Soundness.Sound → rules.sample_text_fault p.now ≡ None }
     ensures fault { result ≡ rules.sample_text_fault p.now }
     ensures within { IfSome result (λ index. index < length p.now.sample) }
 {
-    if let Samples::Sound = samples {
+    if let Soundness::Sound = samples {
         return None;
     }
     p.sample

@@ -83,28 +83,28 @@ filter_swap t u (s ∷ ss) =
 
 module _ (p : Profile) (f : Finders) (config : Config) (column : Option ℕ) where
   abbrev passes : Sample → Bool
-  passes s = is_some (filtered_stack p f config s)
+  passes s = is_some (filtered_stack p f config.filtering s)
 
   -- of samples that the filters drop nothing is seen
   pub seen_passing : (ss : List Sample) → seen_samples p f config column (filter passes ss) ≡ seen_samples p f config column ss
   seen_passing [] = refl
   seen_passing (s ∷ ss) =
-      elim (filtered_stack p f config s) as (λ o. filtered_stack p f config s ≡ o
+      elim (filtered_stack p f config.filtering s) as (λ o. filtered_stack p f config.filtering s ≡ o
       → seen_samples p f config column (cond (is_some o) (s ∷ filter passes ss) (filter passes ss)) ≡ cons_option (option_map (seen_with p config column s) o) (seen_samples p f config column ss)) [
         | None ↦ λ is. seen_passing ss
         | Some stack ↦ λ is. λ i. cons_option (option_map (seen_with p config column s) (is i)) (seen_passing ss i)
       ] refl
 
   -- of those that they leave all is seen
-  pub kept_seen : (kept : List ℕ) → kept ≡ filtered_from p f config 0 p.sample → seen_samples p f config column (samples_at p kept) ≡ seen_samples p f config column p.sample
-  kept_seen kept is = ap (seen_samples p f config column) (kept_samples p f config kept is) ∙ seen_passing p.sample
+  pub kept_seen : (kept : List ℕ) → kept ≡ filtered_from p f config.filtering 0 p.sample → seen_samples p f config column (samples_at p kept) ≡ seen_samples p f config column p.sample
+  kept_seen kept is = ap (seen_samples p f config column) (kept_samples p f config.filtering kept is) ∙ seen_passing p.sample
 
   -- the base's samples among those that are kept
-  pub base_kept : (kept : List ℕ) → kept ≡ filtered_from p f config 0 p.sample
-      → samples_at p (filter (is_base_number p) kept) ≡ filtered_samples p f config (base_samples p)
-  base_kept kept is = base_chosen p kept ∙ ap (filter (is_base p)) (kept_samples p f config kept is) ∙ filter_swap (is_base p) passes p.sample
+  pub base_kept : (kept : List ℕ) → kept ≡ filtered_from p f config.filtering 0 p.sample
+      → samples_at p (filter (is_base_number p) kept) ≡ filtered_samples p f config.filtering (base_samples p)
+  base_kept kept is = base_chosen p kept ∙ ap (filter (is_base p)) (kept_samples p f config.filtering kept is) ∙ filter_swap (is_base p) passes p.sample
 
-  pub base_seen : (kept : List ℕ) → kept ≡ filtered_from p f config 0 p.sample
+  pub base_seen : (kept : List ℕ) → kept ≡ filtered_from p f config.filtering 0 p.sample
       → seen_samples p f config column (samples_at p (filter (is_base_number p) kept)) ≡ seen_samples p f config column (base_samples p)
   base_seen kept is = ap (seen_samples p f config column) (base_kept kept is) ∙ seen_passing (base_samples p)
 
@@ -187,7 +187,7 @@ module _ (l : Loaded) (v : Verdicts) (config : Config) (column : Option ℕ) (co
   S_below : All (HasBelow (length names)) S
   S_below = All-filter (λ (s : Seen ℕ). not (int_eq s.value (pos 0))) (HasBelow (length names)) tallies.seen tallies.below
 
-  module _ (f : Finders) (holds : HoldsFilters l v config f) where
+  module _ (f : Finders) (holds : HoldsFilters l v config.filtering f) where
     abbrev T : List (Seen Written)
     T = seen_samples l.profile f config column (samples_at l.profile chosen)
 
@@ -210,8 +210,8 @@ module _ (l : Loaded) (v : Verdicts) (config : Config) (column : Option ℕ) (co
     written_are = ap (map (key_written l.profile)) named ∙ map_twice (key_written l.profile) (key_numbered names) numbers
 
     -- the sums of the tallies are those of the base's samples
-    pub base_sums_are : (f : Finders) (kept : List ℕ) → HoldsFilters l v config f → kept ≡ filtered_from l.profile f config 0 l.profile.sample
-        → chosen ≡ filter (is_base_number l.profile) kept → base.whole ≡ selected_all column config.divide_by (samples_at l.profile chosen)
+    pub base_sums_are : (f : Finders) (kept : List ℕ) → HoldsFilters l v config.filtering f → kept ≡ filtered_from l.profile f config.filtering 0 l.profile.sample
+        → chosen ≡ filter (is_base_number l.profile) kept → base.whole ≡ selected_all column config.presentation.divide_by (samples_at l.profile chosen)
         → AreBaseSums l.profile f config column sums base
     base_sums_are f kept holds kept_is chosen_is whole_is =
         let seen_is : weighed (T f holds) ≡ base_report_samples l.profile f config column =
@@ -223,8 +223,8 @@ module _ (l : Loaded) (v : Verdicts) (config : Config) (column : Option ℕ) (co
           cum = cums_are
               ∙ same_map (λ n. (at n).cum) (λ n. cum key_cmp (weighed (T f holds)) (name n)) numbers (λ i d here. cum_at f holds (get_or numbers i d) (numbered i d here))
               ∙ sym (map_twice (cum key_cmp (weighed (T f holds))) name numbers) ∙ (λ i. map (cum key_cmp (seen_is i)) (sym written_are i));
-          whole = whole_is ∙ ap (λ (ns : List ℕ). selected_all column config.divide_by (samples_at l.profile ns)) chosen_is
-              ∙ ap (selected_all column config.divide_by) (base_kept l.profile f config column kept kept_is);
+          whole = whole_is ∙ ap (λ (ns : List ℕ). selected_all column config.presentation.divide_by (samples_at l.profile ns)) chosen_is
+              ∙ ap (selected_all column config.presentation.divide_by) (base_kept l.profile f config column kept kept_is);
         }
 
     small_map : (g : ℕ → ℤ) (xs : List ℤ) → xs ≡ map g numbers → ((n : ℕ) → nat_abs (g n) < 2 ^ 63) → All (λ x. nat_abs x < 2 ^ 63) xs
@@ -232,10 +232,10 @@ module _ (l : Loaded) (v : Verdicts) (config : Config) (column : Option ℕ) (co
         subst (λ (x : ℤ). nat_abs x < 2 ^ 63) (sym (get_or-map g numbers i 0 d (omega (arith, here, length-map numbers g)))) (small (get_or numbers i 0)))
 
     -- each sum has a negative
-    pub base_fits : AreRisingBetween 0 (length l.profile.sample) chosen → absolute_all column config.divide_by l.profile.sample < 2 ^ 63 → nat_abs base.whole < 2 ^ 63
+    pub base_fits : AreRisingBetween 0 (length l.profile.sample) chosen → absolute_all column config.presentation.divide_by l.profile.sample < 2 ^ 63 → nat_abs base.whole < 2 ^ 63
         → FitBase sums.names base
     base_fits rising fits small =
-        let within = chosen_within l.profile column config.divide_by chosen rising in
+        let within = chosen_within l.profile column config.presentation.divide_by chosen rising in
         record {
           flats = ap length flats_are ∙ length-map numbers (λ n. (at n).flat) ∙ sym (ap length named ∙ length-map numbers (key_numbered names));
           cums = ap length cums_are ∙ length-map numbers (λ n. (at n).cum) ∙ sym (ap length named ∙ length-map numbers (key_numbered names));

@@ -17,6 +17,7 @@ use Rattle.pp_count.specs.Parts.{sums_of}
 use Rattle.pp_model.specs.declared.frame.Frame.{Frame}
 use Rattle.pp_model.specs.declared.profile.Sample.{Sample}
 use Rattle.pp_model.specs.declared.profile.Profile.{Profile}
+use Rattle.pp_model.specs.declared.grouping.Grouping.{Grouping}
 use Rattle.pp_model.specs.Finders.{Finders}
 use Rattle.pp_model.specs.FrameTexts.{Written, written}
 use Rattle.pp_grain.specs.Keys.{key_texts}
@@ -25,8 +26,8 @@ use Rattle.pp_count.specs.Seeing.{counted_frames, framed_with, framed_samples, f
 use Rattle.pp_count.specs.Counted.{report_samples, report_frames}
 
 -- what a frame that counts is in a report: its key
-abbrev pub key_of_written : Config → Written → Written
-key_of_written config = key_texts config.grain config.showcolumns
+abbrev pub key_of_written : Grouping → Written → Written
+key_of_written grouping = key_texts grouping.grain grouping.showcolumns
 
 -- samples of value 0 are left out alike by keys and by what the keys stand for
 pub weighed-renamed : {J K : Type 0} (f : J → K) (ss : List (Seen J)) → weighed (map (renamed f) ss) ≡ map (renamed f) (weighed ss)
@@ -38,40 +39,40 @@ weighed-renamed f (s ∷ ss) =
     ]
 
 module _ (p : Profile) (f : Finders) (config : Config) (column : Option ℕ) where
-  keys_of_frames : (stack : List Frame) → map (key_of_written config) (map (written p) stack) ≡ map (key_of_frame p config) stack
+  keys_of_frames : (stack : List Frame) → map (key_of_written config.grouping) (map (written p) stack) ≡ map (key_of_frame p config.grouping) stack
   keys_of_frames [] = refl
-  keys_of_frames (x ∷ stack) = ap (λ ks. key_of_frame p config x ∷ ks) (keys_of_frames stack)
+  keys_of_frames (x ∷ stack) = ap (λ ks. key_of_frame p config.grouping x ∷ ks) (keys_of_frames stack)
 
-  keyed_stack : (s : Sample) (stack : List Frame) → renamed (key_of_written config) (framed_with p config column s stack) ≡ seen_with p config column s stack
-  keyed_stack s stack = ap (λ ks. record { value = (seen_with p config column s stack).value; keys = ks }) (keys_of_frames (counted_frames config.noinlines stack))
+  keyed_stack : (s : Sample) (stack : List Frame) → renamed (key_of_written config.grouping) (framed_with p config column s stack) ≡ seen_with p config column s stack
+  keyed_stack s stack = ap (λ ks. record { value = (seen_with p config column s stack).value; keys = ks }) (keys_of_frames (counted_frames config.grouping.noinlines stack))
 
   keyed_option : (s : Sample) (o : Option (List Frame)) (ss : List (Seen Written))
-      → map (renamed (key_of_written config)) (cons_option (option_map (framed_with p config column s) o) ss)
-      ≡ cons_option (option_map (seen_with p config column s) o) (map (renamed (key_of_written config)) ss)
+      → map (renamed (key_of_written config.grouping)) (cons_option (option_map (framed_with p config column s) o) ss)
+      ≡ cons_option (option_map (seen_with p config column s) o) (map (renamed (key_of_written config.grouping)) ss)
   keyed_option s None ss = refl
-  keyed_option s (Some stack) ss = ap (λ r. r ∷ map (renamed (key_of_written config)) ss) (keyed_stack s stack)
+  keyed_option s (Some stack) ss = ap (λ r. r ∷ map (renamed (key_of_written config.grouping)) ss) (keyed_stack s stack)
 
   -- The samples by keys are the samples by frames, with each frame's key.
-  pub keyed_frames : (samples : List Sample) → map (renamed (key_of_written config)) (framed_samples p f config column samples) ≡ seen_samples p f config column samples
+  pub keyed_frames : (samples : List Sample) → map (renamed (key_of_written config.grouping)) (framed_samples p f config column samples) ≡ seen_samples p f config column samples
   keyed_frames [] = refl
   keyed_frames (s ∷ samples) =
-      keyed_option s (filtered_stack p f config s) (framed_samples p f config column samples)
-      ∙ ap (cons_option (option_map (seen_with p config column s) (filtered_stack p f config s))) (keyed_frames samples)
+      keyed_option s (filtered_stack p f config.filtering s) (framed_samples p f config column samples)
+      ∙ ap (cons_option (option_map (seen_with p config column s) (filtered_stack p f config.filtering s))) (keyed_frames samples)
 
   -- The samples that put frames into the report put keys into it, each frame its key.
-  pub keyed_report : map (renamed (key_of_written config)) (report_frames p f config column) ≡ report_samples p f config column
+  pub keyed_report : map (renamed (key_of_written config.grouping)) (report_frames p f config column) ≡ report_samples p f config column
   keyed_report =
-      sym (weighed-renamed (key_of_written config) (framed_samples p f config column p.sample)) ∙ ap weighed (keyed_frames p.sample)
+      sym (weighed-renamed (key_of_written config.grouping) (framed_samples p f config column p.sample)) ∙ ap weighed (keyed_frames p.sample)
 
 module _ (l : Loaded) (v : Verdicts) (config : Config) (column : Option ℕ) (names : List Key) where
   -- the sums of consecutive ranges are within the values of their samples
   consecutive_within : (ranges : List (List Sample)) (parts : List Part) (number : ℕ) → AreConsecutive l v config column names number ranges parts
-      → (k : ℕ) → AreWithin (absolute_all column config.divide_by (samples_of_ranges ranges)) (sums_of k (all_sums parts))
+      → (k : ℕ) → AreWithin (absolute_all column config.presentation.divide_by (samples_of_ranges ranges)) (sums_of k (all_sums parts))
   consecutive_within [] [] number are k = record { flat = omega arith; cum = omega arith }
   consecutive_within [] (part ∷ parts) number are k = absurd are
   consecutive_within (samples ∷ ranges) [] number are k = absurd are
   consecutive_within (samples ∷ ranges) (part ∷ parts) number are k =
-      let size : Sample → ℕ = λ s. nat_abs (selected column config.divide_by s) in
+      let size : Sample → ℕ = λ s. nat_abs (selected column config.presentation.divide_by s) in
       let rest = consecutive_within ranges parts (number + length samples) are.1 k in
       let split : sums_of k (part.sums ++ all_sums parts) ≡ sums_of k part.sums ++ sums_of k (all_sums parts) =
       filter-append (λ (e : KeySum). e.key == k) part.sums (all_sums parts) in
@@ -96,7 +97,7 @@ module _ (l : Loaded) (v : Verdicts) (config : Config) (column : Option ℕ) (na
 
   -- The parts of consecutive ranges can be joined where the values of the samples can be added up.
   pub can_join : (ranges : List (List Sample)) (parts : List Part) (number : ℕ) → AreConsecutive l v config column names number ranges parts
-      → absolute_all column config.divide_by (samples_of_ranges ranges) < 2 ^ 63 → CanJoin parts
+      → absolute_all column config.presentation.divide_by (samples_of_ranges ranges) < 2 ^ 63 → CanJoin parts
   can_join ranges parts number are fits = record {
     flat = λ k. omega (arith, fits, (consecutive_within ranges parts number are k).flat);
     cum = λ k. omega (arith, fits, (consecutive_within ranges parts number are k).cum);

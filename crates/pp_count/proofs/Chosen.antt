@@ -15,7 +15,7 @@ use Rattle.pp_count.specs.declared.scope.Scope.{Scope}
 use Rattle.pp_count.specs.Column.{selected}
 use Rattle.pp_count.specs.Counts.{samples_at}
 use Rattle.pp_count.specs.Rising.{AreRisingBetween}
-use Rattle.pp_count.specs.Scope.{profile_in_scope, config_of, chosen_of, samples_in_scope, size_of, IsSoundScope}
+use Rattle.pp_count.specs.Scope.{profile_in_scope, chosen_of, samples_in_scope, size_of, IsSoundScope}
 use Rattle.pp_count.proofs.Pieces.{all_refer, all_members}
 use Rattle.pp_count.proofs.Rising.{rising_below, samples_are, samples_length}
 
@@ -76,4 +76,4 @@ dropped_within all first count i within here = omega (arith, within, here, lengt
 -- what is left is as small as the whole
 pub dropped_size : (scope : Scope) (all : List Sample) (first : ℕ) → size_of scope all < 2 ^ 63 → size_of scope (drop first all) < 2 ^ 63
 dropped_size scope all first fits =
-    omega (arith, fits, sum_by-take-drop (λ (x : Sample). nat_abs (selected scope.column (config_of scope).divide_by x)) all first)
+    omega (arith, fits, sum_by-take-drop (λ (x : Sample). nat_abs (selected scope.column scope.config.now.presentation.divide_by x)) all first)

@@ -311,7 +311,7 @@ module _ (survey : Survey) (ends : Ends) (kept : List ℕ) (over : Pairing) (sum
   mark_is : (q : ℕ) → q < length kept → is_marked over.marked q ≡ is_marked marked (get_or kept q 0)
   mark_is q here = ap (λ ms. get_or ms q false) h.marks ∙ get_or-map (is_marked marked) kept q 0 false here
 
-  module _ (f : Finders) (holds : HoldsFilters l survey.v.now config f) (edges : List Edge) (is : edges ≡ map (edge_of_sum kept) sums) where
+  module _ (f : Finders) (holds : HoldsFilters l survey.v.now config.filtering f) (edges : List Edge) (is : edges ≡ map (edge_of_sum kept) sums) where
     abbrev T : List (Seen Written)
     T = weighed (seen_samples l.profile f config column l.profile.sample)
 

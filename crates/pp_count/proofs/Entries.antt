@@ -7,7 +7,7 @@ use Rattle.std.proofs.lemmas.Bool.{cases_eq, cases_Bool, eq-eqb, ne_eqb, eqb-fal
 use Rattle.std.proofs.lemmas.List.{take_more, take_all, append-nil, get_or-take, get_or_past, get_or_default, length-take-le}
 use Rattle.std.proofs.lemmas.Option.{none-some, same_Some, get_or_from_slice_get, slice_get_within}
 use Rattle.pp_count.specs.declared.tally.Tally.{Tally}
-use Rattle.pp_count.specs.declared.slots.Row.{Row}
+use Rattle.pp_count.specs.declared.slots.TallyRow.{TallyRow}
 use Rattle.pp_count.specs.declared.part.KeySum.{KeySum}
 use Rattle.pp_count.specs.Tally.{no_tally, slot_tally, tally_entry}
 use Rattle.pp_count.specs.Parts.{sums_of}
@@ -67,7 +67,7 @@ entry_more es i q e k sums new distinct found so_far each = ⊎_elim
 
 -- what is kept of the key number: in a list as far as it goes, else in rows as far as their places go, else in these
 -- entries
-abbrev pub held : List Tally → List ℕ → List Row → List (ℕ × Tally) → ℕ → Tally
+abbrev pub held : List Tally → List ℕ → List TallyRow → List (ℕ × Tally) → ℕ → Tally
 held listed places rows es k =
     cond (nat_lt k (length listed)) (get_or listed k no_tally) (cond (nat_lt k (length places)) (slot_tally places rows k) (entry_at es k))
 
@@ -81,7 +81,7 @@ step false true x y es i q e k sums new distinct found before after = after ∙ 
 step false false x y es i q e k sums new distinct found before after = entry_more es i q e k sums new distinct found before after
 
 -- one more entry of the map is listed
-pub others_more : (listed : List Tally) (places : List ℕ) (rows : List Row) (es : List (ℕ × Tally)) (i q : ℕ) (e : Tally) (sums new : List KeySum)
+pub others_more : (listed : List Tally) (places : List ℕ) (rows : List TallyRow) (es : List (ℕ × Tally)) (i q : ℕ) (e : Tally) (sums new : List KeySum)
     → IsDistinct nat_eq (keys_of es) → slice_get es i ≡ Some (q, e)
     → ((k : ℕ) → sums_of k sums ≡ tally_entry k (held listed places rows (take i es) k))
     → ((k : ℕ) → sums_of k new

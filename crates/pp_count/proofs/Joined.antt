@@ -40,7 +40,7 @@ use Rattle.pp_count.proofs.Renaming.{occurs_below, occurs_named, cum-renamed, fl
 
 -- The part of a range, by what its samples are.
 pub range_part : (scope : Scope) (number m : ℕ) (samples : List Sample) (part : Part) → scope.over ≡ None → scope.chosen ≡ None → IsCompact (profile_in_scope scope)
-    → IsKeyTable (profile_in_scope scope) (config_of scope) scope.table.now → number ≡ m → IsPartOf scope number samples part
+    → IsKeyTable (profile_in_scope scope) scope.grouping scope.table.now → number ≡ m → IsPartOf scope number samples part
     → IsRangePart scope.l.now scope.v.now (config_of scope) scope.column scope.table.now.names m samples part
 range_part scope number m samples part none all compact table same is =
     let n : ℕ = length scope.table.now.names in
@@ -50,7 +50,7 @@ range_part scope number m samples part none all compact table same is =
     let sums_are : AreKeySums S part.sums = subst (λ (r : List (Seen ℕ)). AreKeySums (weighed r) part.sums) (plain scope none is.seen) is.sums in
     let far = apart (profile_in_scope scope) compact scope.table.now.names table.keys table.distinct in
     record {
-      kept = λ f holds. is.kept f holds ∙ ap (λ j. filtered_from (profile_in_scope scope) f (config_of scope) j samples) same;
+      kept = λ f holds. is.kept f holds ∙ ap (λ j. filtered_from (profile_in_scope scope) f scope.config.now.filtering j samples) same;
       sums = λ f holds.
           let T_is : map (renamed name) S ≡ weighed (seen_samples (profile_in_scope scope) f (config_of scope) scope.column samples) =
           sym (weighed-renamed name is.seen) ∙ ap weighed (is.are.are f holds) in
@@ -95,18 +95,18 @@ module _ (l : Loaded) (v : Verdicts) (config : Config) (column : Option ℕ) (na
 
   -- The samples of the ranges so far are in the tallies, and the numbers of those that the filters leave are listed.
   pub record JoinedTo (number : ℕ) (samples : List Sample) (at : ℕ → Tally) (kept : List ℕ) (slots : List Bool) : Type 0 where
-    kept_are : (f : Finders) → HoldsFilters l v config f → kept ≡ filtered_from l.profile f config number samples
-    slots_are : (f : Finders) → HoldsFilters l v config f → slots ≡ matches_among l.profile f config samples
-    tallies : (f : Finders) → HoldsFilters l v config f → (k : ℕ) → k < length names
+    kept_are : (f : Finders) → HoldsFilters l v config.filtering f → kept ≡ filtered_from l.profile f config.filtering number samples
+    slots_are : (f : Finders) → HoldsFilters l v config.filtering f → slots ≡ matches_among l.profile f config.filtering samples
+    tallies : (f : Finders) → HoldsFilters l v config.filtering f → (k : ℕ) → k < length names
         → IsTallyBy key_cmp (put f samples) (written_key l.profile names k) (at k)
-    no_other : (f : Finders) → HoldsFilters l v config f → (k : ℕ) → length names ≤ k → (at k).last ≡ 0
-    flat_within : (k : ℕ) → nat_abs (at k).flat ≤ absolute_all column config.divide_by samples
-    cum_within : (k : ℕ) → nat_abs (at k).cum ≤ absolute_all column config.divide_by samples
+    no_other : (f : Finders) → HoldsFilters l v config.filtering f → (k : ℕ) → length names ≤ k → (at k).last ≡ 0
+    flat_within : (k : ℕ) → nat_abs (at k).flat ≤ absolute_all column config.presentation.divide_by samples
+    cum_within : (k : ℕ) → nat_abs (at k).cum ≤ absolute_all column config.presentation.divide_by samples
 
   pub none_joined : (number : ℕ) → JoinedTo number [] (λ k. no_tally) [] no_matches
   none_joined number = record {
     kept_are = λ f holds. refl;
-    slots_are = λ f holds. none_match l.profile f config;
+    slots_are = λ f holds. none_match l.profile f config.filtering;
     tallies = λ f holds k below. record { flat_is = refl; cum_is = refl; occurs_is = refl };
     no_other = λ f holds k above. refl;
     flat_within = λ k. omega arith;
@@ -118,11 +118,11 @@ module _ (l : Loaded) (v : Verdicts) (config : Config) (column : Option ℕ) (na
       → IsRangePart l v config column names (number + length a) b part
       → JoinedTo number (a ++ b) (λ k. tally_added (at k) (sums_of k part.sums)) (kept ++ part.kept) (either slots part.matched.slots)
   one_joined number a b at kept slots part before is =
-      let size : Sample → ℕ = λ s. nat_abs (selected column config.divide_by s) in
+      let size : Sample → ℕ = λ s. nat_abs (selected column config.presentation.divide_by s) in
       record {
         kept_are = λ f holds. (λ i. before.kept_are f holds i ++ is.kept f holds i)
-            ∙ sym (numbers-append (λ x. is_some (filtered_stack l.profile f config x)) number (number + length a) a b refl);
-        slots_are = λ f holds. (λ i. either (before.slots_are f holds i) (is.matched f holds i)) ∙ either_match l.profile f config a b;
+            ∙ sym (numbers-append (λ x. is_some (filtered_stack l.profile f config.filtering x)) number (number + length a) a b refl);
+        slots_are = λ f holds. (λ i. either (before.slots_are f holds i) (is.matched f holds i)) ∙ either_match l.profile f config.filtering a b;
         tallies = λ f holds k below.
             let w : Written = written_key l.profile names k in
             subst (λ (r : List (Seen Written)). IsTallyBy key_cmp r w (tally_added (at k) (sums_of k part.sums))) (sym (put-append f a b))

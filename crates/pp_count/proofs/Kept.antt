@@ -13,6 +13,7 @@ use Rattle.std.proofs.Math.Seq.{get_or-append_seam}
 use Rattle.pp_model.specs.declared.config.Config.{Config}
 use Rattle.pp_model.specs.declared.profile.Sample.{Sample}
 use Rattle.pp_model.specs.declared.profile.Profile.{Profile}
+use Rattle.pp_model.specs.declared.filtering.Filtering.{Filtering}
 use Rattle.pp_model.specs.Finders.{Finders}
 use Rattle.pp_count.specs.Column.{selected}
 use Rattle.pp_count.specs.Seeing.{filtered_stack, filtered_from, numbers_from, absolute_all}
@@ -41,20 +42,20 @@ listed test before (s ∷ range) rest =
     ]
 
 -- the samples of the numbers that the filters leave
-pub kept_samples : (p : Profile) (f : Finders) (config : Config) (kept : List ℕ) → kept ≡ filtered_from p f config 0 p.sample
-    → samples_at p kept ≡ filtered_samples p f config p.sample
-kept_samples p f config kept is =
-    let test : Sample → Bool = λ s. is_some (filtered_stack p f config s) in
+pub kept_samples : (p : Profile) (f : Finders) (filtering : Filtering) (kept : List ℕ) → kept ≡ filtered_from p f filtering 0 p.sample
+    → samples_at p kept ≡ filtered_samples p f filtering p.sample
+kept_samples p f filtering kept is =
+    let test : Sample → Bool = λ s. is_some (filtered_stack p f filtering s) in
     ap (samples_at p) is
     ∙ ap (λ (ss : List Sample). filter_map (slice_get ss) (numbers_from test 0 p.sample)) (sym (append-nil p.sample))
     ∙ listed test [] p.sample []
 
 -- their values are within those of all samples
-pub kept_fits : (p : Profile) (f : Finders) (config : Config) (column : Option ℕ) (kept : List ℕ) → kept ≡ filtered_from p f config 0 p.sample
-    → absolute_all column config.divide_by p.sample < 2 ^ 63 → absolute_all column config.divide_by (samples_at p kept) < 2 ^ 63
+pub kept_fits : (p : Profile) (f : Finders) (config : Config) (column : Option ℕ) (kept : List ℕ) → kept ≡ filtered_from p f config.filtering 0 p.sample
+    → absolute_all column config.presentation.divide_by p.sample < 2 ^ 63 → absolute_all column config.presentation.divide_by (samples_at p kept) < 2 ^ 63
 kept_fits p f config column kept is fits =
-    let size : Sample → ℕ = λ x. nat_abs (selected column config.divide_by x) in
-    omega (arith, fits, ap (sum_by size) (kept_samples p f config kept is), filter_size size (λ s. is_some (filtered_stack p f config s)) p.sample)
+    let size : Sample → ℕ = λ x. nat_abs (selected column config.presentation.divide_by x) in
+    omega (arith, fits, ap (sum_by size) (kept_samples p f config.filtering kept is), filter_size size (λ s. is_some (filtered_stack p f config.filtering s)) p.sample)
 
 negated : (n : ℕ) → nat_abs (neg_ℤ (pos n)) ≤ n
 negated zero = omega arith

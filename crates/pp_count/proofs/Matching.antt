@@ -7,10 +7,10 @@ use Rattle.std.proofs.lemmas.Bool.{false≢true}
 use Rattle.std.proofs.lemmas.List.{append-nil, drop_all}
 use Rattle.std.proofs.lemmas.List.Elements.{All-drop}
 use Rattle.std.proofs.lemmas.List.Folds.{list_any-append, list_any_none}
-use Rattle.pp_model.specs.declared.config.Config.{Config}
 use Rattle.pp_model.specs.declared.frame.Frame.{Frame}
 use Rattle.pp_model.specs.declared.profile.Sample.{Sample}
 use Rattle.pp_model.specs.declared.profile.Profile.{Profile}
+use Rattle.pp_model.specs.declared.filtering.Filtering.{Filtering}
 use Rattle.pp_model.specs.Conditions.{RefersTo}
 use Rattle.pp_model.specs.Finders.{Finder, Finders}
 use Rattle.pp_model.specs.Frames.{stack_of}
@@ -79,17 +79,17 @@ module _ (p : Profile) (f : Finders) where
   key-none (Some find) = refl
 
   -- no samples have no matches
-  pub none_match : (config : Config) → no_matches ≡ matches_among p f config []
-  none_match config i =
+  pub none_match : (filtering : Filtering) → no_matches ≡ matches_among p f filtering []
+  none_match filtering i =
       frame-none f.focus i ∷ frame-none f.ignore i ∷ frame-none f.hide i ∷ frame-none f.show i ∷ frame-none f.show_from i
       ∷ false ∷ false ∷ true ∷ key-none f.tagshow i ∷ key-none f.taghide i ∷ []
 
   -- the matches of two ranges are those of either
-  pub either_match : (config : Config) (a b : List Sample) → either (matches_among p f config a) (matches_among p f config b) ≡ matches_among p f config (a ++ b)
-  either_match config a b i =
+  pub either_match : (filtering : Filtering) (a b : List Sample) → either (matches_among p f filtering a) (matches_among p f filtering b) ≡ matches_among p f filtering (a ++ b)
+  either_match filtering a b i =
       frame-append f.focus a b i ∷ frame-append f.ignore a b i ∷ frame-append f.hide a b i ∷ frame-append f.show a b i ∷ frame-append f.show_from a b i
-      ∷ sym (list_any-append (selects_or false p (filter_in_force config.tagfocus) f.tagfocus) a b) i
-      ∷ sym (list_any-append (selects_or false p (filter_in_force config.tagignore) f.tagignore) a b) i
+      ∷ sym (list_any-append (selects_or false p (filter_in_force filtering.tagfocus) f.tagfocus) a b) i
+      ∷ sym (list_any-append (selects_or false p (filter_in_force filtering.tagignore) f.tagignore) a b) i
       ∷ true ∷ key-append f.tagshow a b i ∷ key-append f.taghide a b i ∷ []
 
   -- a pattern that finds no frame of the profile finds none in its stacks
@@ -121,4 +121,4 @@ module _ (p : Profile) (f : Finders) where
 pub matches_more : (scope : Scope) (a b : List Sample) (slots others new : List Bool) → new ≡ either slots others
     → HasMatches scope a slots → HasMatches scope b others → HasMatches scope (a ++ b) new
 matches_more scope a b slots others new joined before next all f holds =
-    joined ∙ (λ i. either (before all f holds i) (next all f holds i)) ∙ either_match (profile_in_scope scope) f (config_of scope) a b
+    joined ∙ (λ i. either (before all f holds i) (next all f holds i)) ∙ either_match (profile_in_scope scope) f (config_of scope).filtering a b

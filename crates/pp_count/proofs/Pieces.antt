@@ -54,7 +54,7 @@ all_members p q same =
 seen-append : (scope : Scope) (a b : List Sample) (s t : List (Seen ℕ)) → AreSeen scope a s → AreSeen scope b t → AreSeen scope (a ++ b) (s ++ t)
 seen-append scope a b s t first second =
     let size : Seen ℕ → ℕ = λ x. nat_abs x.value in
-    let all : Sample → ℕ = λ x. nat_abs (selected scope.column (config_of scope).divide_by x) in
+    let all : Sample → ℕ = λ x. nat_abs (selected scope.column scope.config.now.presentation.divide_by x) in
     record {
       below = All-append (HasBelow (length scope.table.now.names)) s t first.below second.below;
       within = omega (arith, first.within, second.within, sum_by-append size s t, sum_by-append all a b);
@@ -82,7 +82,7 @@ counted_more scope number m a b at new old_kept new_kept part next before is kep
       (tallies_joined _ _ at new part.sums before.tallies is.sums each k);
   earlier = λ k. rw (each k) (last_added (at k) (sums_of k part.sums) (before.earlier k));
   kept = λ f holds. kept ∙ (λ i. before.kept f holds i ++ is.kept f holds i)
-      ∙ sym (numbers-append (λ x. is_some (filtered_stack (profile_in_scope scope) f (config_of scope) x)) number m a b next);
+      ∙ sym (numbers-append (λ x. is_some (filtered_stack (profile_in_scope scope) f scope.config.now.filtering x)) number m a b next);
   rising = subst (AreRisingBetween number (number + length (a ++ b))) (sym kept)
       (rising-append number m (number + length (a ++ b)) old_kept part.kept (omega (arith, next)) (omega (arith, next, length-append a b))
       (rising_high number (number + length a) m old_kept (omega (arith, next)) before.rising)
@@ -142,7 +142,7 @@ front_more samples j = ap (λ n. take n samples) (omega arith) ∙ take-add (PIE
 -- the values of the pieces so far and of the next one are within those of all samples
 pub front_within : (scope : Scope) (samples : List Sample) (j : ℕ) → size_of scope (front_of samples j) + size_of scope (piece_of samples j) ≤ size_of scope samples
 front_within scope samples j =
-    let f : Sample → ℕ = λ x. nat_abs (selected scope.column (config_of scope).divide_by x) in
+    let f : Sample → ℕ = λ x. nat_abs (selected scope.column scope.config.now.presentation.divide_by x) in
     omega (
       arith,
       sum_by-take-le f samples (PIECE * (j + 1)),
@@ -218,6 +218,6 @@ none_counted scope m samples sofar first none empty matched totals =
     subst (λ (n : ℕ). AreCounted scope (front_of samples n) sofar) (sym first)
     (record {
       counted = record { seen = start.seen; are = start.are; tallies = start.tallies; earlier = λ k. omega (arith, start.earlier k); kept = start.kept; rising = start.rising };
-      matched = λ all f holds. matched ∙ none_match (profile_in_scope scope) f (config_of scope);
+      matched = λ all f holds. matched ∙ none_match (profile_in_scope scope) f (config_of scope).filtering;
       totals = λ all f holds. scope_totals_none (profile_in_scope scope) f (config_of scope) scope.column sofar.totals totals;
     })

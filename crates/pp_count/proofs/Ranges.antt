@@ -31,16 +31,16 @@ name_of scope = written_key (profile_in_scope scope) scope.table.now.names
 
 -- what is seen of the sample where the filters leave this
 abbrev pub seen_if : Scope → Sample → Option (List Written) → Option (Seen Written)
-seen_if scope s keys = option_map (λ ks. record { value = selected scope.column (config_of scope).divide_by s; keys = ks }) keys
+seen_if scope s keys = option_map (λ ks. record { value = selected scope.column scope.config.now.presentation.divide_by s; keys = ks }) keys
 
 seen_is : (scope : Scope) (f : Finders) (s : Sample) (stack : Option (List Frame))
-    → option_map (seen_with (profile_in_scope scope) (config_of scope) scope.column s) stack ≡ seen_if scope s (option_map (keys_of_stack (profile_in_scope scope) (config_of scope)) stack)
+    → option_map (seen_with (profile_in_scope scope) (config_of scope) scope.column s) stack ≡ seen_if scope s (option_map (keys_of_stack (profile_in_scope scope) scope.grouping) stack)
 seen_is scope f s None = refl
 seen_is scope f s (Some x) = refl
 
 -- whether the filters leave something
 pub some_is : (scope : Scope) (stack : Option (List Frame)) (kept : Bool) (keys : List Written)
-    → option_map (keys_of_stack (profile_in_scope scope) (config_of scope)) stack ≡ kept_if kept keys → is_some stack ≡ kept
+    → option_map (keys_of_stack (profile_in_scope scope) scope.grouping) stack ≡ kept_if kept keys → is_some stack ≡ kept
 some_is scope None true keys e = cc
 some_is scope None false keys e = refl
 some_is scope (Some x) true keys e = refl
@@ -48,16 +48,16 @@ some_is scope (Some x) false keys e = cc
 
 -- What was found of one sample: the filters keep it or not, and its key numbers.
 abbrev pub IsSeen : Scope → Sample → Bool → List ℕ → Type 0
-IsSeen scope s kept keys = (f : Finders) → HoldsFilters scope.l.now scope.v.now (config_of scope) f
-    → option_map (keys_of_stack (profile_in_scope scope) (config_of scope)) (filtered_stack (profile_in_scope scope) f (config_of scope) s) ≡ kept_if kept (map (name_of scope) keys)
+IsSeen scope s kept keys = (f : Finders) → HoldsFilters scope.l.now scope.v.now scope.config.now.filtering f
+    → option_map (keys_of_stack (profile_in_scope scope) scope.grouping) (filtered_stack (profile_in_scope scope) f scope.config.now.filtering s) ≡ kept_if kept (map (name_of scope) keys)
 
 -- the sample by its key numbers
 abbrev pub by_numbers : Scope → Sample → List ℕ → Seen ℕ
-by_numbers scope s keys = record { value = selected scope.column (config_of scope).divide_by s; keys = keys }
+by_numbers scope s keys = record { value = selected scope.column scope.config.now.presentation.divide_by s; keys = keys }
 
-size_more : (scope : Scope) (samples : List Sample) (s : Sample) → size_of scope (samples ++ s ∷ []) ≡ size_of scope samples + nat_abs (selected scope.column (config_of scope).divide_by s)
+size_more : (scope : Scope) (samples : List Sample) (s : Sample) → size_of scope (samples ++ s ∷ []) ≡ size_of scope samples + nat_abs (selected scope.column scope.config.now.presentation.divide_by s)
 size_more scope samples s =
-    let f : Sample → ℕ = λ x. nat_abs (selected scope.column (config_of scope).divide_by x) in
+    let f : Sample → ℕ = λ x. nat_abs (selected scope.column scope.config.now.presentation.divide_by x) in
     omega (arith, sum_by-append f samples (s ∷ []), sum_by-cons f s [])
 
 -- one more sample, which the filters keep
@@ -72,7 +72,7 @@ seen_more scope samples ss s keys is below so_far = record {
   are = λ f holds.
       map-append (renamed (name_of scope)) ss (by_numbers scope s keys ∷ [])
       ∙ (λ i. so_far.are f holds i ++ cons_option (seen_if scope s (sym (is f holds) i)) [])
-      ∙ ap (λ o. seen_samples (profile_in_scope scope) f (config_of scope) scope.column samples ++ cons_option o []) (sym (seen_is scope f s (filtered_stack (profile_in_scope scope) f (config_of scope) s)))
+      ∙ ap (λ o. seen_samples (profile_in_scope scope) f (config_of scope) scope.column samples ++ cons_option o []) (sym (seen_is scope f s (filtered_stack (profile_in_scope scope) f scope.config.now.filtering s)))
       ∙ sym (filter_map-append (seen (profile_in_scope scope) f (config_of scope) scope.column) samples (s ∷ []));
 }
 
@@ -85,7 +85,7 @@ seen_same scope samples ss s keys is so_far = record {
   are = λ f holds.
       sym (append-nil (map (renamed (name_of scope)) ss))
       ∙ (λ i. so_far.are f holds i ++ cons_option (seen_if scope s (sym (is f holds) i)) [])
-      ∙ ap (λ o. seen_samples (profile_in_scope scope) f (config_of scope) scope.column samples ++ cons_option o []) (sym (seen_is scope f s (filtered_stack (profile_in_scope scope) f (config_of scope) s)))
+      ∙ ap (λ o. seen_samples (profile_in_scope scope) f (config_of scope) scope.column samples ++ cons_option o []) (sym (seen_is scope f s (filtered_stack (profile_in_scope scope) f scope.config.now.filtering s)))
       ∙ sym (filter_map-append (seen (profile_in_scope scope) f (config_of scope) scope.column) samples (s ∷ []));
 }
 
@@ -100,12 +100,12 @@ numbers-append test n m (s ∷ a) b e =
 
 -- the numbers with that of one more sample
 kept_more : (scope : Scope) (f : Finders) (number i : ℕ) (samples : List Sample) (s : Sample) (kept : Bool) (keys : List ℕ)
-    → HoldsFilters scope.l.now scope.v.now (config_of scope) f → IsSeen scope s kept keys → length samples ≡ i
-    → filtered_from (profile_in_scope scope) f (config_of scope) number (samples ++ s ∷ []) ≡ filtered_from (profile_in_scope scope) f (config_of scope) number samples ++ cond kept ((number + i) ∷ []) []
+    → HoldsFilters scope.l.now scope.v.now scope.config.now.filtering f → IsSeen scope s kept keys → length samples ≡ i
+    → filtered_from (profile_in_scope scope) f scope.config.now.filtering number (samples ++ s ∷ []) ≡ filtered_from (profile_in_scope scope) f scope.config.now.filtering number samples ++ cond kept ((number + i) ∷ []) []
 kept_more scope f number i samples s kept keys holds is long =
-    numbers-append (λ x. is_some (filtered_stack (profile_in_scope scope) f (config_of scope) x)) number (number + i) samples (s ∷ []) (omega (arith, long))
-    ∙ ap (λ w. filtered_from (profile_in_scope scope) f (config_of scope) number samples ++ cond w ((number + i) ∷ []) [])
-    (some_is scope (filtered_stack (profile_in_scope scope) f (config_of scope) s) kept (map (name_of scope) keys) (is f holds))
+    numbers-append (λ x. is_some (filtered_stack (profile_in_scope scope) f scope.config.now.filtering x)) number (number + i) samples (s ∷ []) (omega (arith, long))
+    ∙ ap (λ w. filtered_from (profile_in_scope scope) f scope.config.now.filtering number samples ++ cond w ((number + i) ∷ []) [])
+    (some_is scope (filtered_stack (profile_in_scope scope) f scope.config.now.filtering s) kept (map (name_of scope) keys) (is f holds))
 
 -- what is counted of samples is as large as they are
 pub counted_size : (scope : Scope) (ss : List (Seen ℕ)) → absolute (map (counted_as scope) ss) ≡ absolute ss
@@ -136,7 +136,7 @@ counted_none scope number at kept none empty = record {
 -- one more sample that is kept
 pub counted_kept : (scope : Scope) (number i : ℕ) (samples : List Sample) (s : Sample) (keys : List ℕ) (at new : ℕ → Tally) (kept : List ℕ)
     → i < length samples → s ≡ get_or samples i s → IsSeen scope s true keys → All (λ k. k < length scope.table.now.names) keys
-    → ((k : ℕ) → new k ≡ with_seen (selected scope.column (config_of scope).divide_by s) (i + 1) (counted_keys (over_of scope) keys) k (at k))
+    → ((k : ℕ) → new k ≡ with_seen (selected scope.column scope.config.now.presentation.divide_by s) (i + 1) (counted_keys (over_of scope) keys) k (at k))
     → CountedTo scope number i (take i samples) at kept → CountedTo scope number (i + 1) (take (i + 1) samples) new (kept ++ (number + i) ∷ [])
 counted_kept scope number i samples s keys at new kept here at_i is below each so_far =
     let more : List (Seen ℕ) = so_far.seen ++ by_numbers scope s keys ∷ [] in
@@ -165,7 +165,7 @@ counted_dropped scope number i samples s keys at kept here at_i is so_far =
       are = seen_same scope (take i samples) so_far.seen s keys is so_far.are;
       tallies = so_far.tallies;
       earlier = λ k. omega (arith, so_far.earlier k);
-      kept = λ f holds. so_far.kept f holds ∙ sym (append-nil (filtered_from (profile_in_scope scope) f (config_of scope) number (take i samples)))
+      kept = λ f holds. so_far.kept f holds ∙ sym (append-nil (filtered_from (profile_in_scope scope) f scope.config.now.filtering number (take i samples)))
           ∙ sym (kept_more scope f number i (take i samples) s false keys holds is (length-take-le i samples (omega (arith, here))));
       rising = rising_high number (number + length (take i samples)) (number + length (take i samples ++ s ∷ [])) kept (omega (arith, length-append (take i samples) (s ∷ []))) so_far.rising;
     })
@@ -174,10 +174,10 @@ counted_dropped scope number i samples s keys at kept here at_i is so_far =
 pub room : (scope : Scope) (number i : ℕ) (samples : List Sample) (s : Sample) (at : ℕ → Tally) (kept : List ℕ)
     → i < length samples → s ≡ get_or samples i s → size_of scope samples < 2 ^ 63
     → CountedTo scope number i (take i samples) at kept
-    → (k : ℕ) → (nat_abs (at k).cum + nat_abs (selected scope.column (config_of scope).divide_by s) < 2 ^ 63)
-    × (nat_abs (at k).flat + nat_abs (selected scope.column (config_of scope).divide_by s) < 2 ^ 63)
+    → (k : ℕ) → (nat_abs (at k).cum + nat_abs (selected scope.column scope.config.now.presentation.divide_by s) < 2 ^ 63)
+    × (nat_abs (at k).flat + nat_abs (selected scope.column scope.config.now.presentation.divide_by s) < 2 ^ 63)
 room scope number i samples s at kept here at_i fits so_far k =
-    let size : Sample → ℕ = λ x. nat_abs (selected scope.column (config_of scope).divide_by x) in
+    let size : Sample → ℕ = λ x. nat_abs (selected scope.column scope.config.now.presentation.divide_by x) in
     let left : size_of scope (take i samples) + size s ≤ size_of scope samples =
     subst (λ (x : Sample). size_of scope (take i samples) + size x ≤ size_of scope samples) (sym at_i) (sum_by_more_le size samples i s here) in
     let counted : List (Seen ℕ) = map (counted_as scope) so_far.seen in (

@@ -5,7 +5,7 @@ use Rattle.std.proofs.lemmas.List.{get_or_append_left, take-append-le, drop-appe
 use Rattle.std.proofs.lemmas.List.Elements.{All-head, All-tail}
 use Rattle.pp_base.specs.Front.{IsFront}
 use Rattle.pp_count.specs.declared.rows.TheConstants.{LONG}
-use Rattle.pp_count.specs.Rows.{row_by, IsWithin}
+use Rattle.pp_count.specs.Rows.{row_by, IsRowWithin}
 
 -- the row of an entry that is a number
 short_row : (long : List ℕ) (e : ℕ) → e < LONG → row_by long e ≡ e ∷ []
@@ -16,11 +16,11 @@ long_row : (long : List ℕ) (e : ℕ) → LONG ≤ e → row_by long e ≡ take
 long_row long e past = ap (λ b. cond b (e ∷ []) (take (get_or long (e - LONG) 0) (drop (e - LONG + 1) long))) (le-ltb e LONG past)
 
 -- a count stays where the list grows
-count_front : (long rest : List ℕ) (e : ℕ) → IsWithin long e → LONG ≤ e → get_or (long ++ rest) (e - LONG) 0 ≡ get_or long (e - LONG) 0
+count_front : (long rest : List ℕ) (e : ℕ) → IsRowWithin long e → LONG ≤ e → get_or (long ++ rest) (e - LONG) 0 ≡ get_or long (e - LONG) 0
 count_front long rest e within past = get_or_append_left long rest 0 (e - LONG) (omega (arith, within past))
 
 -- so does a row
-row_front : (long new : List ℕ) (e : ℕ) → IsFront long new → IsWithin long e → row_by new e ≡ row_by long e
+row_front : (long new : List ℕ) (e : ℕ) → IsFront long new → IsRowWithin long e → row_by new e ≡ row_by long e
 row_front long new e front within = ⊎_elim
     (λ below. short_row new e below ∙ sym (short_row long e below))
     (λ past.
@@ -35,13 +35,13 @@ row_front long new e front within = ⊎_elim
     ∙ sym (long_row long e past))
     (cases_lt e LONG)
 
-rows_front : (long new entries : List ℕ) → IsFront long new → All (IsWithin long) entries → map (row_by new) entries ≡ map (row_by long) entries
+rows_front : (long new entries : List ℕ) → IsFront long new → All (IsRowWithin long) entries → map (row_by new) entries ≡ map (row_by long) entries
 rows_front long new [] front within = refl
 rows_front long new (e ∷ entries) front within =
-    λ i. row_front long new e front (All-head (IsWithin long) e entries within) i ∷ rows_front long new entries front (All-tail (IsWithin long) e entries within) i
+    λ i. row_front long new e front (All-head (IsRowWithin long) e entries within) i ∷ rows_front long new entries front (All-tail (IsRowWithin long) e entries within) i
 
 -- one more row
-pub more_rows : (long new entries row : List ℕ) (e : ℕ) → IsFront long new → All (IsWithin long) entries → row_by new e ≡ row
+pub more_rows : (long new entries row : List ℕ) (e : ℕ) → IsFront long new → All (IsRowWithin long) entries → row_by new e ≡ row
     → map (row_by new) (entries ++ e ∷ []) ≡ map (row_by long) entries ++ row ∷ []
 more_rows long new entries row e front within is =
     map-append (row_by new) entries (e ∷ []) ∙ (λ i. rows_front long new entries front within i ++ is i ∷ [])

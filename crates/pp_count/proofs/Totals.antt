@@ -10,6 +10,7 @@ use Rattle.std.proofs.lemmas.List.Sums.{sum_by-append, sum_by-cons}
 use Rattle.pp_model.specs.declared.config.Config.{Config}
 use Rattle.pp_model.specs.declared.profile.Sample.{Sample}
 use Rattle.pp_model.specs.declared.profile.Profile.{Profile}
+use Rattle.pp_model.specs.declared.presentation.Presentation.{Presentation}
 use Rattle.pp_model.specs.Finders.{Finders}
 use Rattle.pp_count.specs.declared.scope.Scope.{Scope}
 use Rattle.pp_count.specs.declared.total.Totals.{Totals}
@@ -24,14 +25,14 @@ pub at_more : (p : Profile) (kept : List ℕ) (i : ℕ) → i < length kept
 at_more p kept i here = ap (samples_at p) (take_more kept i 0 here) ∙ filter_map-append (slice_get p.sample) (take i kept) (get_or kept i 0 ∷ [])
 
 -- the sums over no samples
-pub totals_none : (p : Profile) (config : Config) (column : Option ℕ) (t : Totals) → t ≡ record { all = 0; base = 0 } → AreTotals p config column [] t
-totals_none p config column t none = record { all = omega (arith, ap (λ x. x.all) none); base = omega (arith, ap (λ x. x.base) none) }
+pub totals_none : (p : Profile) (presentation : Presentation) (column : Option ℕ) (t : Totals) → t ≡ record { all = 0; base = 0 } → AreTotals p presentation column [] t
+totals_none p presentation column t none = record { all = omega (arith, ap (λ x. x.all) none); base = omega (arith, ap (λ x. x.base) none) }
 
 -- the sums over two ranges
-pub totals_more : (p : Profile) (config : Config) (column : Option ℕ) (a b : List Sample) (t u new : Totals)
-    → new ≡ totals_plus t u → AreTotals p config column a t → AreTotals p config column b u → AreTotals p config column (a ++ b) new
-totals_more p config column a b t u new plus first second =
-    let f : Sample → ℕ = λ x. nat_abs (selected column config.divide_by x) in
+pub totals_more : (p : Profile) (presentation : Presentation) (column : Option ℕ) (a b : List Sample) (t u new : Totals)
+    → new ≡ totals_plus t u → AreTotals p presentation column a t → AreTotals p presentation column b u → AreTotals p presentation column (a ++ b) new
+totals_more p presentation column a b t u new plus first second =
+    let f : Sample → ℕ = λ x. nat_abs (selected column presentation.divide_by x) in
     record {
       all = omega (arith, ap (λ x. x.all) plus, first.all, second.all, sum_by-append f a b);
       base = omega (
@@ -53,11 +54,11 @@ filter_size f q (s ∷ ss) =
 
 -- of no samples nothing is left
 pub scope_totals_none : (p : Profile) (f : Finders) (config : Config) (column : Option ℕ) (t : Totals) → t ≡ record { all = 0; base = 0 }
-    → AreTotals p config column (samples_of_total p f config []) t
+    → AreTotals p config.presentation column (samples_of_total p f config []) t
 scope_totals_none p f config column t none =
-    elim config.relative_percentages as (λ r. AreTotals p config column (cond r (filtered_samples p f config []) []) t) [
-      | true ↦ totals_none p config column t none
-      | false ↦ totals_none p config column t none
+    elim config.presentation.relative_percentages as (λ r. AreTotals p config.presentation column (cond r (filtered_samples p f config.filtering []) []) t) [
+      | true ↦ totals_none p config.presentation column t none
+      | false ↦ totals_none p config.presentation column t none
     ]
 
 -- the totals of two ranges of the scope
@@ -68,22 +69,22 @@ scope_totals_more scope a b t u new plus before next whole f holds =
     let config = config_of scope in
     let of_total : List Sample → List Sample = samples_of_total p f config in
     let both : of_total (a ++ b) ≡ of_total a ++ of_total b =
-    elim config.relative_percentages as (λ r. cond r (filtered_samples p f config (a ++ b)) (a ++ b) ≡ cond r (filtered_samples p f config a) a ++ cond r (filtered_samples p f config b) b) [
+    elim config.presentation.relative_percentages as (λ r. cond r (filtered_samples p f config.filtering (a ++ b)) (a ++ b) ≡ cond r (filtered_samples p f config.filtering a) a ++ cond r (filtered_samples p f config.filtering b) b) [
       | true ↦ filter-append _ a b
       | false ↦ refl
     ] in
-    subst (λ ss. AreTotals p config scope.column ss new) (sym both)
-    (totals_more p config scope.column (of_total a) (of_total b) t u new plus (before whole f holds) (next whole f holds))
+    subst (λ ss. AreTotals p config.presentation scope.column ss new) (sym both)
+    (totals_more p config.presentation scope.column (of_total a) (of_total b) t u new plus (before whole f holds) (next whole f holds))
 
 -- what percentages are taken of, where the values fit
-pub total_is : (p : Profile) (f : Finders) (config : Config) (column : Option ℕ) (t : Totals) → absolute_all column config.divide_by p.sample < 2 ^ 63
-    → AreTotals p config column (samples_of_total p f config p.sample) t → total_by t.base t.all ≡ total_of p f config column
+pub total_is : (p : Profile) (f : Finders) (config : Config) (column : Option ℕ) (t : Totals) → absolute_all column config.presentation.divide_by p.sample < 2 ^ 63
+    → AreTotals p config.presentation column (samples_of_total p f config p.sample) t → total_by t.base t.all ≡ total_of p f config column
 total_is p f config column t fits are =
-    let size : Sample → ℕ = λ x. nat_abs (selected column config.divide_by x) in
+    let size : Sample → ℕ = λ x. nat_abs (selected column config.presentation.divide_by x) in
     let ss : List Sample = samples_of_total p f config p.sample in
     let within : sum_by size ss < 2 ^ 63 =
-    elim config.relative_percentages as (λ r. sum_by size (cond r (filtered_samples p f config p.sample) p.sample) < 2 ^ 63) [
-      | true ↦ omega (arith, fits, filter_size size (λ s. is_some (filtered_stack p f config s)) p.sample)
+    elim config.presentation.relative_percentages as (λ r. sum_by size (cond r (filtered_samples p f config.filtering p.sample) p.sample) < 2 ^ 63) [
+      | true ↦ omega (arith, fits, filter_size size (λ s. is_some (filtered_stack p f config.filtering s)) p.sample)
       | false ↦ fits
     ] in
     let base_is : t.base ≡ sum_by size (filter (is_base p) ss) = omega (arith, within, are.base, filter_size size (is_base p) ss) in

@@ -50,7 +50,8 @@ pub record AreBaseSums (p : Profile) (f : Finders) (config : Config) (column : O
       : base.cum ≡ map (cum key_cmp (base_report_samples p f config column)) (written_names p sums)
   pub whole
       : base.whole
-      ≡ selected_all column config.divide_by (filtered_samples p f config (base_samples p))
+      ≡ selected_all column config.presentation.divide_by
+      (filtered_samples p f config.filtering (base_samples p))
 
 -- There is a flat and a cum for each name, and each figure has a negative.
 pub record FitBase (names : List Key) (base : BaseSums) : Type 0 where
@@ -69,8 +70,9 @@ pub record HasTallies (l : Loaded) (v : Verdicts) (config : Config) (column : Op
     (names : List Key) (chosen : List ℕ) (at : ℕ → Tally) : Type 0 where
   pub seen : List (Seen ℕ)
   pub below : All (HasBelow (length names)) seen
-  pub within : absolute seen ≤ absolute_all column config.divide_by (samples_at l.profile chosen)
-  pub are : (f : Finders) → HoldsFilters l v config f
+  pub within : absolute seen ≤ absolute_all column config.presentation.divide_by
+      (samples_at l.profile chosen)
+  pub are : (f : Finders) → HoldsFilters l v config.filtering f
       → map (renamed (written_key l.profile names)) seen
       ≡ seen_samples l.profile f config column (samples_at l.profile chosen)
   pub tallies : (k : ℕ) → IsTallyOf (weighed seen) k (at k)

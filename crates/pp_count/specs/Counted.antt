@@ -6,6 +6,7 @@ use Rattle.pp_model.specs.declared.config.Config.{Config}
 use Rattle.pp_model.specs.declared.loaded.Loaded.{Loaded}
 use Rattle.pp_model.specs.declared.profile.Profile.{Profile}
 use Rattle.pp_model.specs.declared.verdicts.Verdicts.{Verdicts}
+use Rattle.pp_model.specs.declared.filtering.Filtering.{Filtering}
 use Rattle.pp_model.specs.Conditions.{HasVerdicts, IsColumnOf}
 use Rattle.pp_model.specs.Finders.{Finders}
 use Rattle.pp_model.specs.FrameTexts.{Written}
@@ -27,12 +28,13 @@ use Rattle.pp_count.specs.Table.{key_numbered, IsKeyTable}
 
 -- What a report counts of a profile can be counted: samples and columns are few, sums
 -- fit, and verdicts, tags and column are those of the profile.
-pub record CanCount (p : Profile) (v : Verdicts) (config : Config) (of_column : Option ℕ) : Type 0 where
+pub record CanCount (p : Profile) (v : Verdicts) (filtering : Filtering) (of_column : Option ℕ)
+    : Type 0 where
   pub countable : IsCountable p
   pub column : IsColumnOf p of_column
   pub verdicts : HasVerdicts p v
-  pub focus : HasItsTags p v.tag (filter_in_force config.tagfocus)
-  pub ignore : HasItsTags p v.tag (filter_in_force config.tagignore)
+  pub focus : HasItsTags p v.tag (filter_in_force filtering.tagfocus)
+  pub ignore : HasItsTags p v.tag (filter_in_force filtering.tagignore)
 
 -- The samples that put keys into a report: those that the filters leave and whose
 -- selected value isn't 0, with the keys of their frames that count.
@@ -60,7 +62,7 @@ pub record FitSums (sums : Sums) : Type 0 where
 
 -- The sums of all samples of the scope are under the keys of these numbers. No public clause cites it.
 pub record AreKeyed (scope : Scope) (keyed : NumberedSums) : Type 0 where
-  pub sums : (f : Finders) → HoldsFilters scope.l.now scope.v.now (config_of scope) f
+  pub sums : (f : Finders) → HoldsFilters scope.l.now scope.v.now scope.config.now.filtering f
       → AreSumsOf (profile_in_scope scope) (report_samples (profile_in_scope scope) f (config_of scope) scope.column) keyed.sums
   pub fits : FitSums keyed.sums
   pub of_profile : All (IsKeyOf (profile_in_scope scope)) keyed.sums.names
@@ -70,18 +72,18 @@ pub record AreKeyed (scope : Scope) (keyed : NumberedSums) : Type 0 where
 -- What is counted is what the report's samples come to, whatever its patterns find. What it was counted by is at hand.
 pub record IsCountedOf (l : Loaded) (v : Verdicts) (config : Config) (column : Option ℕ) (c : Counted)
     : Type 0 where
-  pub kept : (f : Finders) → HoldsFilters l v config f
-      → c.kept ≡ filtered_from l.profile f config 0 l.profile.sample
-  pub sums_are : (f : Finders) → HoldsFilters l v config f
+  pub kept : (f : Finders) → HoldsFilters l v config.filtering f
+      → c.kept ≡ filtered_from l.profile f config.filtering 0 l.profile.sample
+  pub sums_are : (f : Finders) → HoldsFilters l v config.filtering f
       → AreSumsOf l.profile (report_samples l.profile f config column) c.sums
-  pub matches : (f : Finders) → HoldsFilters l v config f
-      → c.matched.slots ≡ matches_of l.profile f config
-  pub total_is : (f : Finders) → HoldsFilters l v config f
+  pub matches : (f : Finders) → HoldsFilters l v config.filtering f
+      → c.matched.slots ≡ matches_of l.profile f config.filtering
+  pub total_is : (f : Finders) → HoldsFilters l v config.filtering f
       → c.total ≡ total_of l.profile f config column
   pub fits : FitSums c.sums
   pub of_profile : All (IsKeyOf l.profile) c.sums.names
   pub rising : AreRisingBetween 0 (length l.profile.sample) c.kept
-  pub table : IsKeyTable l.profile config c.table
-  pub filters : AreFilters l.profile v config c.filters
+  pub table : IsKeyTable l.profile config.grouping c.table
+  pub filters : AreFilters l.profile v config.filtering c.filters
   pub names : c.sums.names ≡ map (key_numbered c.table.names) c.numbers
   pub numbered : All (λ n. n < length c.table.names) c.numbers

@@ -6,6 +6,8 @@ use Rattle.pp_model.specs.declared.config.Config.{Config}
 use Rattle.pp_model.specs.declared.profile.Label.{Label}
 use Rattle.pp_model.specs.declared.profile.Sample.{Sample}
 use Rattle.pp_model.specs.declared.profile.Profile.{Profile}
+use Rattle.pp_model.specs.declared.filtering.Filtering.{Filtering}
+use Rattle.pp_model.specs.declared.presentation.Presentation.{Presentation}
 use Rattle.pp_model.specs.Finders.{Finders}
 use Rattle.pp_model.specs.Lookup.{text_of}
 use Rattle.pp_model.specs.FrameTexts.{Written}
@@ -38,9 +40,9 @@ abbrev pub is_base : Profile → Sample → Bool
 is_base p s = list_any (is_base_label p) s.label
 
 -- the samples that the filters leave
-abbrev pub filtered_samples : Profile → Finders → Config → List Sample → List Sample
-filtered_samples p f config samples =
-    filter (λ s. is_some (filtered_stack p f config s)) samples
+abbrev pub filtered_samples : Profile → Finders → Filtering → List Sample → List Sample
+filtered_samples p f filtering samples =
+    filter (λ s. is_some (filtered_stack p f filtering s)) samples
 
 -- the samples with these numbers; no public clause cites it
 abbrev pub samples_at : Profile → List ℕ → List Sample
@@ -51,16 +53,18 @@ abbrev pub total_by : ℕ → ℕ → ℕ
 total_by base all = if base == 0 then all else base
 
 -- the sum of the absolute selected values of the base's samples among these, and where it is 0 that of all of them
-abbrev pub total_over : Profile → Config → Option ℕ → List Sample → ℕ
-total_over p config column samples =
-    total_by (absolute_all column config.divide_by (filter (is_base p) samples))
-    (absolute_all column config.divide_by samples)
+abbrev pub total_over : Profile → Presentation → Option ℕ → List Sample → ℕ
+total_over p presentation column samples =
+    total_by (absolute_all column presentation.divide_by (filter (is_base p) samples))
+    (absolute_all column presentation.divide_by samples)
 
 -- The samples that percentages are taken of: all of these, or under relative_percentages those that the filters leave.
 abbrev pub samples_of_total : Profile → Finders → Config → List Sample → List Sample
 samples_of_total p f config samples =
-    if config.relative_percentages then filtered_samples p f config samples else samples
+    if config.presentation.relative_percentages then filtered_samples p f config.filtering samples
+    else samples
 
 -- what percentages are taken of
 abbrev pub total_of : Profile → Finders → Config → Option ℕ → ℕ
-total_of p f config column = total_over p config column (samples_of_total p f config p.sample)
+total_of p f config column =
+    total_over p config.presentation column (samples_of_total p f config p.sample)

@@ -98,7 +98,7 @@ pub record HasPairSums (l : Loaded) (v : Verdicts) (config : Config) (column : O
     (names : List Key) (over : Pairing) (sums : List KeySum) : Type 0 where
   pub seen : List (Seen ℕ)
   pub below : All (HasBelow (length names)) seen
-  pub are : (f : Finders) → HoldsFilters l v config f
+  pub are : (f : Finders) → HoldsFilters l v config.filtering f
       → map (renamed (written_key l.profile names)) seen
       ≡ seen_samples l.profile f config column l.profile.sample
   pub listed : AreKeySums (weighed (map (paired over) seen)) sums

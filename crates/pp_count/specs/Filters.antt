@@ -1,10 +1,10 @@
 -- What the filters of a report need beside its verdicts.
 use Rattle.std.specs.Prelude.{◌≡◌, Bool, false, List, Option}
 use Rattle.std.specs.Option.{ForSome}
-use Rattle.pp_model.specs.declared.config.Config.{Config}
 use Rattle.pp_model.specs.declared.frame.Frame.{Frame}
 use Rattle.pp_model.specs.declared.profile.Profile.{Profile}
 use Rattle.pp_model.specs.declared.verdicts.Verdicts.{Verdicts}
+use Rattle.pp_model.specs.declared.filtering.Filtering.{Filtering}
 use Rattle.pp_model.specs.Conditions.{IsFrameOf}
 use Rattle.pp_model.specs.Finders.{Finder}
 use Rattle.pp_model.specs.FrameTexts.{written}
@@ -33,9 +33,10 @@ pub record AreReached (p : Profile) (v : Verdicts) (reach : PatternReach) : Type
 
 -- The tag filters are those of the configuration, with their tags, and the tables and what they reach are of the
 -- verdicts.
-pub record AreFilters (p : Profile) (v : Verdicts) (config : Config) (filters : Filters) : Type 0 where
-  pub focus : filters.tagfocus ≡ filter_in_force config.tagfocus
-  pub ignore : filters.tagignore ≡ filter_in_force config.tagignore
+pub record AreFilters (p : Profile) (v : Verdicts) (filtering : Filtering) (filters : Filters)
+    : Type 0 where
+  pub focus : filters.tagfocus ≡ filter_in_force filtering.tagfocus
+  pub ignore : filters.tagignore ≡ filter_in_force filtering.tagignore
   pub focus_tags : HasItsTags p v.tag filters.tagfocus
   pub ignore_tags : HasItsTags p v.tag filters.tagignore
   pub tables : AreTables p v filters.tables

@@ -40,17 +40,18 @@ pub record AreWithin (size : ℕ) (sums : List KeySum) : Type 0 where
   pub cum : cum_size sums ≤ size
 
 -- The part is what these samples come to, whatever the patterns find, where the first of them has the number `number`.
--- It has the numbers of those that the filters leave, in order, the sums of the names that occur in them, and the
--- matches of all of them.
+-- It has the numbers of those that the filters leave, in order, and the sums of the names that occur in them. The
+-- matches are those of all of them.
 pub record IsRangePart (l : Loaded) (v : Verdicts) (config : Config) (column : Option ℕ)
     (names : List Key) (number : ℕ) (samples : List Sample) (part : Part) : Type 0 where
-  pub kept : (f : Finders) → HoldsFilters l v config f
-      → part.kept ≡ filtered_from l.profile f config number samples
-  pub sums : (f : Finders) → HoldsFilters l v config f
+  pub kept : (f : Finders) → HoldsFilters l v config.filtering f
+      → part.kept ≡ filtered_from l.profile f config.filtering number samples
+  pub sums : (f : Finders) → HoldsFilters l v config.filtering f
       → AreNamedSums l.profile names (weighed (seen_samples l.profile f config column samples)) part.sums
-  pub matched : (f : Finders) → HoldsFilters l v config f
-      → part.matched.slots ≡ matches_among l.profile f config samples
-  pub within : (k : ℕ) → AreWithin (absolute_all column config.divide_by samples) (sums_of k part.sums)
+  pub matched : (f : Finders) → HoldsFilters l v config.filtering f
+      → part.matched.slots ≡ matches_among l.profile f config.filtering samples
+  pub within : (k : ℕ)
+      → AreWithin (absolute_all column config.presentation.divide_by samples) (sums_of k part.sums)
 
 -- The parts are those of these ranges, one after the other, of which the first begins at this number.
 abbrev pub AreConsecutive : Loaded → Verdicts → Config → Option ℕ → List Key → ℕ → List (List Sample) → List Part → Type 0

@@ -2,9 +2,9 @@
 use Rattle.std.specs.Prelude.{ℕ, Bool, true, false, ◌||◌, List, [], ◌∷◌, drop, slice_index_or, Option}
 use Rattle.std.specs.List.{list_any}
 use Rattle.std.specs.Option.{option_map_or}
-use Rattle.pp_model.specs.declared.config.Config.{Config}
 use Rattle.pp_model.specs.declared.profile.Sample.{Sample}
 use Rattle.pp_model.specs.declared.profile.Profile.{Profile}
+use Rattle.pp_model.specs.declared.filtering.Filtering.{Filtering}
 use Rattle.pp_model.specs.Finders.{Finder, Finders, TagFinders}
 use Rattle.pp_model.specs.Frames.{stack_of}
 use Rattle.pp_model.specs.FrameTexts.{written}
@@ -37,23 +37,23 @@ tag_match p text parts samples = list_any (selects_or false p (filter_in_force t
 
 -- Whether each option has a match among these samples: focus, ignore, hide, show, show_from, tagfocus, tagignore,
 -- prune_from, tagshow and taghide. prune_from is never without one.
-abbrev pub matches_among : Profile → Finders → Config → List Sample → List Bool
-matches_among p f config samples =
+abbrev pub matches_among : Profile → Finders → Filtering → List Sample → List Bool
+matches_among p f filtering samples =
     frame_match p f f.focus samples
     ∷ frame_match p f f.ignore samples
     ∷ frame_match p f f.hide samples
     ∷ frame_match p f f.show samples
     ∷ frame_match p f f.show_from samples
-    ∷ tag_match p config.tagfocus f.tagfocus samples
-    ∷ tag_match p config.tagignore f.tagignore samples
+    ∷ tag_match p filtering.tagfocus f.tagfocus samples
+    ∷ tag_match p filtering.tagignore f.tagignore samples
     ∷ true
     ∷ key_match p f.tagshow samples
     ∷ key_match p f.taghide samples
     ∷ []
 
 -- whether each option has a match among all loaded samples
-abbrev pub matches_of : Profile → Finders → Config → List Bool
-matches_of p f config = matches_among p f config p.sample
+abbrev pub matches_of : Profile → Finders → Filtering → List Bool
+matches_of p f filtering = matches_among p f filtering p.sample
 
 -- the matches of no samples
 abbrev pub no_matches : List Bool

@@ -9,6 +9,6 @@ row_by long entry =
     else take (slice_index_or long (entry - LONG) 0) (drop (entry - LONG + 1) long)
 
 -- the numbers of the entry's row stand in the list
-abbrev pub IsWithin : List ℕ → ℕ → Type 0
-IsWithin long entry =
+abbrev pub IsRowWithin : List ℕ → ℕ → Type 0
+IsRowWithin long entry =
     LONG ≤ entry → (entry - LONG) + 1 + slice_index_or long (entry - LONG) 0 ≤ length long

@@ -28,9 +28,9 @@ use Rattle.pp_count.specs.Totals.{AreTotals}
 abbrev pub profile_in_scope : Scope → Profile
 profile_in_scope scope = scope.l.now.profile
 
--- the configuration
+-- the configuration, with what the scope's keys are
 abbrev pub config_of : Scope → Config
-config_of scope = scope.config.now
+config_of scope = record (scope.config.now) { grouping = scope.grouping }
 
 -- the keys that pairs are counted over; none where keys are counted
 abbrev pub over_of : Scope → Option Pairing
@@ -47,15 +47,16 @@ samples_in_scope scope = option_map_or (samples_at (profile_in_scope scope)) (ch
 -- The verdicts, the filters and the table are those of the profile and the configuration. Samples that are chosen are
 -- the profile's, each once.
 pub record IsSoundScope (scope : Scope) : Type 0 where
-  pub filters : AreFilters (profile_in_scope scope) scope.v.now (config_of scope) scope.filters.now
+  pub filters : AreFilters
+      (profile_in_scope scope) scope.v.now scope.config.now.filtering scope.filters.now
   pub verdicts : HasVerdicts (profile_in_scope scope) scope.v.now
-  pub table : IsKeyTable (profile_in_scope scope) (config_of scope) scope.table.now
+  pub table : IsKeyTable (profile_in_scope scope) scope.grouping scope.table.now
   pub few_kept : MatchOption (over_of scope) ⊤ HasPairPlaces
   pub chosen : MatchOption (chosen_of scope) ⊤ (AreRisingBetween 0 (length (profile_in_scope scope).sample))
 
 -- the sum of the absolute selected values of the samples
 abbrev pub size_of : Scope → List Sample → ℕ
-size_of scope samples = absolute_all scope.column scope.config.now.divide_by samples
+size_of scope samples = absolute_all scope.column scope.config.now.presentation.divide_by samples
 
 -- The samples can be numbered, and their values added up.
 pub record AreCountable (scope : Scope) (samples : List Sample) : Type 0 where
@@ -66,7 +67,7 @@ pub record AreCountable (scope : Scope) (samples : List Sample) : Type 0 where
 pub record AreSeen (scope : Scope) (samples : List Sample) (seen : List (Seen ℕ)) : Type 0 where
   pub below : All (HasBelow (length scope.table.now.names)) seen
   pub within : absolute seen ≤ size_of scope samples
-  pub are : (f : Finders) → HoldsFilters scope.l.now scope.v.now (config_of scope) f
+  pub are : (f : Finders) → HoldsFilters scope.l.now scope.v.now scope.config.now.filtering f
       → map (renamed (written_key (profile_in_scope scope) scope.table.now.names)) seen
       ≡ seen_samples (profile_in_scope scope) f (config_of scope) scope.column samples
 
@@ -77,14 +78,16 @@ counted_as scope s = record { value = s.value; keys = counted_keys (over_of scop
 -- The slots are the matches of these samples. Samples that are chosen are not searched.
 abbrev pub HasMatches : Scope → List Sample → List Bool → Type 0
 HasMatches scope samples slots =
-    scope.chosen ≡ None → (f : Finders) → HoldsFilters scope.l.now scope.v.now (config_of scope) f
-    → slots ≡ matches_among (profile_in_scope scope) f (config_of scope) samples
+    scope.chosen ≡ None → (f : Finders)
+    → HoldsFilters scope.l.now scope.v.now scope.config.now.filtering f
+    → slots ≡ matches_among (profile_in_scope scope) f scope.config.now.filtering samples
 
 -- The sums are over those of these samples that percentages are taken of. Samples that are chosen are not added up.
 abbrev pub HasTotals : Scope → List Sample → Totals → Type 0
 HasTotals scope samples totals =
-    scope.chosen ≡ None → (f : Finders) → HoldsFilters scope.l.now scope.v.now (config_of scope) f
-    → AreTotals (profile_in_scope scope) (config_of scope) scope.column
+    scope.chosen ≡ None → (f : Finders)
+    → HoldsFilters scope.l.now scope.v.now scope.config.now.filtering f
+    → AreTotals (profile_in_scope scope) scope.config.now.presentation scope.column
     (samples_of_total (profile_in_scope scope) f (config_of scope) samples) totals
 
 -- The part is that of these samples, of which the first has this number.
@@ -93,8 +96,9 @@ pub record IsPartOf (scope : Scope) (number : ℕ) (samples : List Sample) (part
   pub seen : List (Seen ℕ)
   pub are : AreSeen scope samples seen
   pub sums : AreKeySums (weighed (map (counted_as scope) seen)) part.sums
-  pub kept : (f : Finders) → HoldsFilters scope.l.now scope.v.now (config_of scope) f
-      → part.kept ≡ filtered_from (profile_in_scope scope) f (config_of scope) number samples
+  pub kept : (f : Finders) → HoldsFilters scope.l.now scope.v.now scope.config.now.filtering f
+      → part.kept ≡ filtered_from
+      (profile_in_scope scope) f scope.config.now.filtering number samples
   pub rising : AreRisingBetween number (number + length samples) part.kept
   pub matched : HasMatches scope samples part.matched.slots
   pub totals : HasTotals scope samples part.totals
@@ -107,8 +111,8 @@ pub record CountedTo (scope : Scope) (number turn : ℕ) (samples : List Sample)
   pub are : AreSeen scope samples seen
   pub tallies : (k : ℕ) → IsTallyOf (weighed (map (counted_as scope) seen)) k (at k)
   pub earlier : (k : ℕ) → (at k).last ≤ turn
-  pub kept : (f : Finders) → HoldsFilters scope.l.now scope.v.now (config_of scope) f
-      → numbers ≡ filtered_from (profile_in_scope scope) f (config_of scope) number samples
+  pub kept : (f : Finders) → HoldsFilters scope.l.now scope.v.now scope.config.now.filtering f
+      → numbers ≡ filtered_from (profile_in_scope scope) f scope.config.now.filtering number samples
   pub rising : AreRisingBetween number (number + length samples) numbers
 
 -- These samples are added up and searched for matches, and so is what percentages are taken of. No public clause cites

@@ -7,6 +7,8 @@ use Rattle.pp_model.specs.declared.profile.Sample.{Sample}
 use Rattle.pp_model.specs.declared.profile.Profile.{Profile}
 use Rattle.pp_model.specs.declared.loaded.Loaded.{Loaded}
 use Rattle.pp_model.specs.declared.verdicts.Verdicts.{Verdicts}
+use Rattle.pp_model.specs.declared.grouping.Grouping.{Grouping}
+use Rattle.pp_model.specs.declared.filtering.Filtering.{Filtering}
 use Rattle.pp_model.specs.Finders.{Finders, HoldsFinders}
 use Rattle.pp_model.specs.FrameTexts.{Written, written}
 use Rattle.pp_grain.specs.Keys.{frame_counts, key_texts}
@@ -23,52 +25,58 @@ counted_frames noinlines (f ∷ stack) =
     else counted_frames noinlines stack
 
 -- the key of the frame, by the configuration's grain
-abbrev pub key_of_frame : Profile → Config → Frame → Written
-key_of_frame p config f = key_texts config.grain config.showcolumns (written p f)
+abbrev pub key_of_frame : Profile → Grouping → Frame → Written
+key_of_frame p grouping f = key_texts grouping.grain grouping.showcolumns (written p f)
 
 -- the keys of the frames of a stack that count, leaf first
-abbrev pub keys_of_stack : Profile → Config → List Frame → List Written
-keys_of_stack p config stack =
-    map (key_of_frame p config) (counted_frames config.noinlines stack)
+abbrev pub keys_of_stack : Profile → Grouping → List Frame → List Written
+keys_of_stack p grouping stack =
+    map (key_of_frame p grouping) (counted_frames grouping.noinlines stack)
 
 -- The verdicts of a report are what its patterns find: those on stacks, and the parts of its two tag filters.
-pub record HoldsFilters (l : Loaded) (v : Verdicts) (config : Config) (f : Finders) : Type 0 where
+pub record HoldsFilters (l : Loaded) (v : Verdicts) (filtering : Filtering) (f : Finders)
+    : Type 0 where
   pub found : HoldsFinders l v f
   pub tagfocus
-      : AreTagVerdicts l.profile v.tag (filter_in_force config.tagfocus) f.tagfocus v.tagfocus
+      : AreTagVerdicts l.profile v.tag (filter_in_force filtering.tagfocus) f.tagfocus v.tagfocus
   pub tagignore
-      : AreTagVerdicts l.profile v.tag (filter_in_force config.tagignore) f.tagignore v.tagignore
+      : AreTagVerdicts l.profile v.tag (filter_in_force filtering.tagignore) f.tagignore v.tagignore
 
 -- whether the sample passes the configuration's tag filters
-abbrev pub passes_tags : Profile → Finders → Config → Sample → Bool
-passes_tags p f config s =
-    is_tag_kept p (filter_in_force config.tagfocus) (filter_in_force config.tagignore) f s
+abbrev pub passes_tags : Profile → Finders → Filtering → Sample → Bool
+passes_tags p f filtering s =
+    is_tag_kept p (filter_in_force filtering.tagfocus) (filter_in_force filtering.tagignore) f s
 
 -- What the stack filters leave of the sample's stack. None where they or the tag filters drop the sample.
-abbrev pub filtered_stack : Profile → Finders → Config → Sample → Option (List Frame)
-filtered_stack p f config s = if passes_tags p f config s then frames_of_sample p f s else None
+abbrev pub filtered_stack : Profile → Finders → Filtering → Sample → Option (List Frame)
+filtered_stack p f filtering s =
+    if passes_tags p f filtering s then frames_of_sample p f s else None
 
 -- the sample with the frames of this stack that count, written out
 abbrev pub framed_with : Profile → Config → Option ℕ → Sample → List Frame → Seen Written
 framed_with p config column s stack = record {
-  value = selected column config.divide_by s;
-  keys = map (written p) (counted_frames config.noinlines stack);
+  value = selected column config.presentation.divide_by s;
+  keys = map (written p) (counted_frames config.grouping.noinlines stack);
 }
 
 -- The samples that the filters leave, in order, with their frames that count, written out, in the place of keys.
 abbrev pub framed_samples : Profile → Finders → Config → Option ℕ → List Sample → List (Seen Written)
 framed_samples p f config column samples =
-    filter_map (λ s. option_map (framed_with p config column s) (filtered_stack p f config s)) samples
+    filter_map (λ s. option_map (framed_with p config column s)
+    (filtered_stack p f config.filtering s)) samples
 
 -- the sample with this stack
 abbrev pub seen_with : Profile → Config → Option ℕ → Sample → List Frame → Seen Written
 seen_with p config column s stack =
-    record { value = selected column config.divide_by s; keys = keys_of_stack p config stack }
+    record {
+      value = selected column config.presentation.divide_by s;
+      keys = keys_of_stack p config.grouping stack;
+    }
 
 -- The sample as the report sees it, none where the filters drop it.
 abbrev pub seen : Profile → Finders → Config → Option ℕ → Sample → Option (Seen Written)
 seen p f config column s =
-    option_map (seen_with p config column s) (filtered_stack p f config s)
+    option_map (seen_with p config column s) (filtered_stack p f config.filtering s)
 
 -- The samples that the filters leave, as the report sees them, in order.
 abbrev pub seen_samples : Profile → Finders → Config → Option ℕ → List Sample → List (Seen Written)
@@ -82,9 +90,9 @@ numbers_from test number (s ∷ samples) =
     else numbers_from test (number + 1) samples
 
 -- The numbers of the samples that the filters leave, where the first sample has this number.
-abbrev pub filtered_from : Profile → Finders → Config → ℕ → List Sample → List ℕ
-filtered_from p f config number samples =
-    numbers_from (λ s. is_some (filtered_stack p f config s)) number samples
+abbrev pub filtered_from : Profile → Finders → Filtering → ℕ → List Sample → List ℕ
+filtered_from p f filtering number samples =
+    numbers_from (λ s. is_some (filtered_stack p f filtering s)) number samples
 
 -- the sum of the absolute selected values of all samples, filtered or not
 abbrev pub absolute_all : Option ℕ → ℕ → List Sample → ℕ

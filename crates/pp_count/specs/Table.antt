@@ -1,9 +1,9 @@
 -- The key numbers of the lines of each location.
 use Rattle.std.specs.Prelude.{◌≡◌, ℕ, ◌<◌, Bool, pos, List, [], length, map, slice_index_or, All, AllPairs, ◌≢◌}
 use Rattle.pp_base.specs.Front.{IsFront}
-use Rattle.pp_model.specs.declared.config.Config.{Config}
-use Rattle.pp_model.specs.declared.config.Grain.{Grain}
+use Rattle.pp_model.specs.declared.grouping.Grain.{Grain}
 use Rattle.pp_model.specs.declared.profile.Profile.{Profile}
+use Rattle.pp_model.specs.declared.grouping.Grouping.{Grouping}
 use Rattle.pp_model.specs.Frames.{rows, lines_at}
 use Rattle.pp_model.specs.FrameTexts.{Written, written}
 use Rattle.pp_grain.specs.declared.key.Key.{Key}
@@ -52,5 +52,6 @@ pub record AreRows (grain : Grain) (showcolumns : Bool) (p : Profile) (names : L
   pub distinct : AllPairs (λ a b. a ≢ b) names
 
 -- The table has the key number of each line of each location, by the configuration's grain.
-abbrev pub IsKeyTable : Profile → Config → KeyTable → Type 0
-IsKeyTable p config table = AreRows config.grain config.showcolumns p table.names table.location
+abbrev pub IsKeyTable : Profile → Grouping → KeyTable → Type 0
+IsKeyTable p grouping table =
+    AreRows grouping.grain grouping.showcolumns p table.names table.location

@@ -5,7 +5,7 @@ use Rattle.std.specs.Ordering.{nat_cmp, int_eq}
 use Rattle.indexmap.specs.IndexMap.{get}
 use Rattle.pp_count.specs.Sums.{Seen, cum, flat, has, leads, occurs}
 use Rattle.pp_count.specs.declared.tally.Tally.{Tally}
-use Rattle.pp_count.specs.declared.slots.Row.{Row}
+use Rattle.pp_count.specs.declared.slots.TallyRow.{TallyRow}
 use Rattle.pp_count.specs.declared.tallies.Tallies.{Tallies}
 use Rattle.pp_count.specs.declared.part.KeySum.{KeySum}
 
@@ -14,15 +14,15 @@ abbrev pub no_tally : Tally
 no_tally = record { flat = pos 0; cum = pos 0; last = 0 }
 
 -- the row of no key
-abbrev pub no_row : Row
+abbrev pub no_row : TallyRow
 no_row = record { key = 0; tally = no_tally }
 
 -- what the row says of the key number
-abbrev pub row_tally : Row → ℕ → Tally
+abbrev pub row_tally : TallyRow → ℕ → Tally
 row_tally row k = if nat_eq row.key k then row.tally else no_tally
 
 -- what is kept of the key number in rows, where the list has the place of each number's row
-abbrev pub slot_tally : List ℕ → List Row → ℕ → Tally
+abbrev pub slot_tally : List ℕ → List TallyRow → ℕ → Tally
 slot_tally places rows k = row_tally (slice_index_or rows (slice_index_or places k 0) no_row) k
 
 -- what the list and the slots keep of the key number: those of higher numbers have none
@@ -34,8 +34,8 @@ placed_tally tallies k =
     else no_tally
 
 -- the key number is past the list, and its row is the one at the place
-abbrev pub has_place : Tallies → ℕ → ℕ → Bool
-has_place tallies place k =
+abbrev pub has_row_at : Tallies → ℕ → ℕ → Bool
+has_row_at tallies place k =
     if nat_lt k (length tallies.listed.items) then false
     else if nat_lt k (length tallies.slots.place.items)
     then nat_eq (slice_index_or tallies.slots.place.items k 0) place

@@ -18,7 +18,7 @@ use crate::total::is_base;
 use crate::value::selected;
 use crate::waves::count_all;
 use pp_base::{Gate, List, Memory};
-use pp_model::{Config, Loaded, Profile};
+use pp_model::{Loaded, Presentation, Profile};
 use std::alloc::Global;
 use std::mem;
 use std::thread::Threads;
@@ -52,7 +52,7 @@ pub fn base_sums<R: Threads + Sync, G: Gate>(
     gate: &G,
 ) -> Result<BaseSums, Memory>
     ensures sums { (f : Finders) →
-        HoldsFilters survey.now.l.now survey.now.v.now survey.now.config.now f →
+        HoldsFilters survey.now.l.now survey.now.v.now survey.now.config.now.filtering f →
         IfOk result (AreBaseSums survey.now.l.now.profile f survey.now.config.now
         survey.now.column survey.now.counted.now.sums) }
     ensures fits { IfOk result (FitBase survey.now.counted.now.sums.names) }
@@ -63,7 +63,7 @@ pub fn base_sums<R: Threads + Sync, G: Gate>(
     let list = base_numbers(alloc, compact, kept)?;
     let chosen = list.as_slice();
     let tallies = chosen_tallies(rt, alloc, survey, chosen, gate)?;
-    let whole = selected_sum(survey.l, survey.config, survey.column, chosen);
+    let whole = selected_sum(survey.l, &survey.config.presentation, survey.column, chosen);
     let numbers = counted.numbers.as_slice();
     let sums = sums_at(alloc, &tallies, numbers, whole);
     mem::drop(tallies);
@@ -118,6 +118,7 @@ fn chosen_tallies<'x, R: Threads + Sync, G: Gate>(
         l: survey.l,
         v: survey.v,
         config: survey.config,
+        grouping: survey.config.grouping,
         filters: &survey.counted.filters,
         column: survey.column,
         table: &survey.counted.table,
@@ -160,39 +161,44 @@ fn push_tally(flat: &mut List<i64>, cum: &mut List<i64>, tally: Tally) -> Result
 /// The sum of the selected values of the samples that the filters leave.
 pub fn counted_whole(survey: &Survey<'_>) -> i64
     ensures { (f : Finders) →
-        HoldsFilters survey.now.l.now survey.now.v.now survey.now.config.now f → result
-        ≡ selected_all survey.now.column survey.now.config.now.divide_by
-        (filtered_samples survey.now.l.now.profile f survey.now.config.now
+        HoldsFilters survey.now.l.now survey.now.v.now survey.now.config.now.filtering f → result
+        ≡ selected_all survey.now.column survey.now.config.now.presentation.divide_by
+        (filtered_samples survey.now.l.now.profile f survey.now.config.now.filtering
         survey.now.l.now.profile.sample) }
 {
     let kept = survey.counted.kept.as_slice();
-    selected_sum(survey.l, survey.config, survey.column, kept)
+    selected_sum(survey.l, &survey.config.presentation, survey.column, kept)
 }
 
 // The sum of the selected values of the samples with these numbers.
-fn selected_sum(l: &Loaded, config: &Config, column: Option<u32>, numbers: &[u32]) -> i64
-    requires fits { absolute_all column config.now.divide_by l.now.profile.sample < 2 ^ 63 }
+fn selected_sum(
+    l: &Loaded,
+    presentation: &Presentation,
+    column: Option<u32>,
+    numbers: &[u32],
+) -> i64
+    requires fits { absolute_all column presentation.now.divide_by l.now.profile.sample < 2 ^ 63 }
     requires rising { AreRisingBetween 0 (length l.now.profile.sample) numbers.now }
     ensures value { result
-        ≡ selected_all column config.now.divide_by (samples_at l.now.profile numbers.now) }
+        ≡ selected_all column presentation.now.divide_by (samples_at l.now.profile numbers.now) }
     ensures small { nat_abs result < 2 ^ 63 }
 {
     let mut sum = 0;
     for number in numbers {
-        let value = value_of(l, config, column, *number);
+        let value = value_of(l, presentation, column, *number);
         sum = sum_of(sum, value);
     }
     sum
 }
 
 // The selected value of the sample with this number.
-fn value_of(l: &Loaded, config: &Config, column: Option<u32>, number: u32) -> i64
+fn value_of(l: &Loaded, presentation: &Presentation, column: Option<u32>, number: u32) -> i64
     requires { number < length l.now.profile.sample }
-    ensures { result ≡ selected column config.now.divide_by
+    ensures { result ≡ selected column presentation.now.divide_by
         (slice_index_or l.now.profile.sample number no_sample) }
 {
     let samples = l.profile.get().sample.as_slice();
-    selected(l, &samples[number as usize], column, config.divide_by)
+    selected(l, &samples[number as usize], column, presentation.divide_by)
 }
 
 fn sum_of(sum: i64, value: i64) -> i64

@@ -8,7 +8,7 @@ ghost use Rattle.pp_model.specs.Conditions.{IsColumnOf};
 ghost use Rattle.pp_model.specs.Lookup.{text_of};
 ghost use Rattle.pp_count.specs.Column.{column_of, default_column, column_named, column_at, type_named};
 
-use pp_model::{Config, Loaded, Profile, text_of};
+use pp_model::{Loaded, Presentation, Profile, text_of};
 use thiserror::Error;
 
 /// No sample type has the number or the name that `sample_index` asks for.
@@ -21,13 +21,13 @@ pub struct BadSampleIndex;
 ///
 /// An empty `sample_index` means the first type of the profile's default name, else the last one. Digits alone are a
 /// place, counted from 0. Any other text is the name of a type, of which the first counts.
-pub fn column_of(l: &Loaded, config: &Config) -> Result<Option<u32>, BadSampleIndex>
+pub fn column_of(l: &Loaded, presentation: &Presentation) -> Result<Option<u32>, BadSampleIndex>
     requires { length l.now.profile.sample_type < 2 ^ 32 }
-    ensures value { result_ok result ≡ column_of l.now.profile config.now.sample_index }
+    ensures value { result_ok result ≡ column_of l.now.profile presentation.now.sample_index }
     ensures bound { IfOk result (IsColumnOf l.now.profile) }
 {
     let p = l.profile.get();
-    let text = config.sample_index.as_slice();
+    let text = presentation.sample_index.as_slice();
     if text.is_empty() {
         return Ok(default_column(p));
     }

@@ -60,7 +60,7 @@ pub fn count<R: Threads + Sync, G: Gate>(
     column: Option<u32>,
     gate: &G,
 ) -> Result<Counted, Memory>
-    requires { CanCount l.now.profile v.now config.now column }
+    requires { CanCount l.now.profile v.now config.now.filtering column }
     ensures { IfOk result (IsCountedOf l.now v.now config.now column) }
 {
     let by = table_and_filters(alloc, hash_keys, l, v, config)?;
@@ -83,18 +83,20 @@ fn table_and_filters(
     config: &Config,
 ) -> Result<(KeyTable, Filters), Memory>
     requires verdicts { HasVerdicts l.now.profile v.now }
-    requires focus { HasItsTags l.now.profile v.now.tag (filter_in_force config.now.tagfocus) }
-    requires ignore { HasItsTags l.now.profile v.now.tag (filter_in_force config.now.tagignore) }
-    ensures table { IfOk result (λ by. IsKeyTable l.now.profile config.now by.0) }
-    ensures filters { IfOk result (λ by. AreFilters l.now.profile v.now config.now by.1) }
+    requires focus { HasItsTags l.now.profile v.now.tag
+        (filter_in_force config.now.filtering.tagfocus) }
+    requires ignore { HasItsTags l.now.profile v.now.tag
+        (filter_in_force config.now.filtering.tagignore) }
+    ensures table { IfOk result (λ by. IsKeyTable l.now.profile config.now.grouping by.0) }
+    ensures filters { IfOk result (λ by. AreFilters l.now.profile v.now config.now.filtering by.1) }
 {
-    let table = key_table(alloc, hash_keys, l, config)?;
-    let filters = Filters::new(alloc, l, v, config)?;
+    let table = key_table(alloc, hash_keys, l, config.grouping)?;
+    let filters = Filters::new(alloc, l, v, &config.filtering)?;
     Ok((table, filters))
 }
 
 // What all samples come to, with what they were counted by.
-fn counted_of(whole: Whole, by: (KeyTable, Filters)) -> Counted
+fn counted_of(whole: WholeCount, by: (KeyTable, Filters)) -> Counted
     ensures { result ≡ record {
       kept = whole.sofar.kept;
       sums = whole.keyed.sums;
@@ -120,7 +122,7 @@ fn counted_of(whole: Whole, by: (KeyTable, Filters)) -> Counted
 
 // What all samples come to, by key numbers and by keys.
 #[derive(Drop)]
-struct Whole {
+struct WholeCount {
     sofar: Sofar,
     keyed: NumberedSums,
     // What percentages are taken of.
@@ -133,7 +135,7 @@ fn count_whole<R: Threads + Sync, G: Gate>(
     alloc: Global,
     scope: &Scope,
     gate: &G,
-) -> Result<Whole, Memory>
+) -> Result<WholeCount, Memory>
     requires sound { IsSoundScope scope.now }
     requires countable { AreCountable scope.now (samples_in_scope scope.now) }
     requires keys { scope.now.over ≡ None }
@@ -142,7 +144,7 @@ fn count_whole<R: Threads + Sync, G: Gate>(
         AreCounted scope.now (samples_in_scope scope.now) whole.sofar) }
     ensures keyed { IfOk result (λ whole. AreKeyed scope.now whole.keyed) }
     ensures total { (f : Finders) →
-        HoldsFilters scope.now.l.now scope.now.v.now scope.now.config.now f →
+        HoldsFilters scope.now.l.now scope.now.v.now scope.now.config.now.filtering f →
         IfOk result (λ whole. whole.total
         ≡ total_of scope.now.l.now.profile f scope.now.config.now scope.now.column) }
 {
@@ -150,7 +152,7 @@ fn count_whole<R: Threads + Sync, G: Gate>(
     match sums_so_far(alloc, scope, &sofar) {
         Ok(keyed) => {
             let total = sofar.totals.total();
-            Ok(Whole {
+            Ok(WholeCount {
                 sofar,
                 keyed,
                 total,

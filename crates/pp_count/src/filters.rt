@@ -9,7 +9,7 @@ ghost use Rattle.pp_stack.specs.Tables.{AreTables, FitsPattern};
 ghost use Rattle.pp_count.specs.Filters.{AreFilters, AreReached, IsReach};
 
 use pp_base::Memory;
-use pp_model::{Config, Loaded, Verdicts};
+use pp_model::{Filtering, Loaded, Verdicts};
 use pp_stack::{VerdictTable, VerdictTables};
 use pp_tags::TagFilter;
 use std::alloc::Global;
@@ -45,13 +45,20 @@ pub struct PatternReach {
 
 impl Filters {
     /// The filters with a table for each pattern in force, for all samples of the profile. `Err` is want of memory.
-    pub fn new(alloc: Global, l: &Loaded, v: &Verdicts, config: &Config) -> Result<Filters, Memory>
+    pub fn new(
+        alloc: Global,
+        l: &Loaded,
+        v: &Verdicts,
+        filtering: &Filtering,
+    ) -> Result<Filters, Memory>
         requires verdicts { HasVerdicts l.now.profile v.now }
-        requires focus { HasItsTags l.now.profile v.now.tag (filter_in_force config.now.tagfocus) }
-        requires ignore { HasItsTags l.now.profile v.now.tag (filter_in_force config.now.tagignore) }
-        ensures { IfOk result (AreFilters l.now.profile v.now config.now) }
+        requires focus { HasItsTags l.now.profile v.now.tag
+            (filter_in_force filtering.now.tagfocus) }
+        requires ignore { HasItsTags l.now.profile v.now.tag
+            (filter_in_force filtering.now.tagignore) }
+        ensures { IfOk result (AreFilters l.now.profile v.now filtering.now) }
     {
-        let tags = tag_filters(alloc, config)?;
+        let tags = tag_filters(alloc, filtering)?;
         let tables = VerdictTables::new(alloc, l, v)?;
         Ok(with_tables(tags, tables))
     }
@@ -61,32 +68,34 @@ impl Filters {
         alloc: Global,
         l: &Loaded,
         v: &Verdicts,
-        config: &Config,
+        filtering: &Filtering,
     ) -> Result<Filters, Memory>
-        requires focus { HasItsTags l.now.profile v.now.tag (filter_in_force config.now.tagfocus) }
-        requires ignore { HasItsTags l.now.profile v.now.tag (filter_in_force config.now.tagignore) }
-        ensures { IfOk result (AreFilters l.now.profile v.now config.now) }
+        requires focus { HasItsTags l.now.profile v.now.tag
+            (filter_in_force filtering.now.tagfocus) }
+        requires ignore { HasItsTags l.now.profile v.now.tag
+            (filter_in_force filtering.now.tagignore) }
+        ensures { IfOk result (AreFilters l.now.profile v.now filtering.now) }
     {
-        let tags = tag_filters(alloc, config)?;
+        let tags = tag_filters(alloc, filtering)?;
         Ok(with_tables(tags, VerdictTables::none()))
     }
 }
 
 // The filters of `tagfocus` and of `tagignore`.
-type TagFilters = (Option<TagFilter>, Option<TagFilter>);
+type TagFilterPair = (Option<TagFilter>, Option<TagFilter>);
 
-// The configuration's tag filters, each where it is in force.
-fn tag_filters(alloc: Global, config: &Config) -> Result<TagFilters, Memory>
-    ensures focus { IfOk result (λ tags. tags.0 ≡ filter_in_force config.now.tagfocus) }
-    ensures ignore { IfOk result (λ tags. tags.1 ≡ filter_in_force config.now.tagignore) }
+// The tag filters, each where it is in force.
+fn tag_filters(alloc: Global, filtering: &Filtering) -> Result<TagFilterPair, Memory>
+    ensures focus { IfOk result (λ tags. tags.0 ≡ filter_in_force filtering.now.tagfocus) }
+    ensures ignore { IfOk result (λ tags. tags.1 ≡ filter_in_force filtering.now.tagignore) }
 {
-    let tagfocus = TagFilter::in_force(alloc, config.tagfocus.as_slice())?;
-    let tagignore = TagFilter::in_force(alloc, config.tagignore.as_slice())?;
+    let tagfocus = TagFilter::in_force(alloc, filtering.tagfocus.as_slice())?;
+    let tagignore = TagFilter::in_force(alloc, filtering.tagignore.as_slice())?;
     Ok((tagfocus, tagignore))
 }
 
 // The tag filters with these tables.
-fn with_tables(tags: TagFilters, tables: VerdictTables) -> Filters
+fn with_tables(tags: TagFilterPair, tables: VerdictTables) -> Filters
     ensures focus { result.tagfocus ≡ tags.0 }
     ensures ignore { result.tagignore ≡ tags.1 }
     ensures tables { result.tables ≡ tables }

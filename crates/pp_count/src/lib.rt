@@ -49,7 +49,7 @@ pub use matched::Matched;
 pub use pairs::Pairing;
 pub use part::{KeySum, Part};
 pub use parts::{count_piece, join_parts};
-pub use recounting::{Ends, edges, edges_about, recount};
+pub use recounting::{Ends, edges_about, recount};
 pub use rows::Rows;
 pub use scope::{Scope, sample_at};
 pub use seeing::see;

@@ -105,9 +105,9 @@ fn matches(alloc: Global, scope: &Scope, samples: &[Sample]) -> Result<Matched, 
     requires members { All (IsSampleOf scope.now.l.now.profile) samples.now }
     requires refers { All (RefersTo scope.now.l.now.profile) samples.now }
     ensures { (f : Finders) →
-        HoldsFilters scope.now.l.now scope.now.v.now scope.now.config.now f →
+        HoldsFilters scope.now.l.now scope.now.v.now scope.now.config.now.filtering f →
         IfOk result (λ m. m.slots
-        ≡ matches_among scope.now.l.now.profile f scope.now.config.now samples.now) }
+        ≡ matches_among scope.now.l.now.profile f scope.now.config.now.filtering samples.now) }
 {
     let (l, v) = (scope.l, scope.v);
     let filters = scope.filters;

@@ -76,7 +76,7 @@ fn frames_in(scope: &Scope, first: u32, count: u32) -> usize
 // That number with the frames of one more sample.
 fn frames_on(scope: &Scope, s: &Sample, before: usize) -> usize
     requires refers { RefersTo scope.now.l.now.profile s.now }
-    requires table { IsKeyTable scope.now.l.now.profile scope.now.config.now scope.now.table.now }
+    requires table { IsKeyTable scope.now.l.now.profile scope.now.grouping scope.now.table.now }
 {
     // Each id is a place plus 1.
     let _compact = scope.l.profile.get();
@@ -142,7 +142,12 @@ fn add_samples(
         let place = first + index;
         let sample = sample_at(scope, place as usize);
         let left = see(scope, sample, &mut stack, &mut keys)?;
-        let value = selected(scope.l, sample, scope.column, scope.config.divide_by);
+        let value = selected(
+            scope.l,
+            sample,
+            scope.column,
+            scope.config.presentation.divide_by,
+        );
         *totals = totals.plus(totals_of(scope, sample, value, left));
         if left {
             let turn = index as u64 + 1;

@@ -29,14 +29,14 @@ pub fn count_piece(
     table: &KeyTable,
     piece: u32,
 ) -> Result<Part, Memory>
-    requires can { CanCount l.now.profile v.now config.now column }
-    requires table { IsKeyTable l.now.profile config.now table.now }
+    requires can { CanCount l.now.profile v.now config.now.filtering column }
+    requires table { IsKeyTable l.now.profile config.now.grouping table.now }
     requires starts { PIECE * piece < length l.now.profile.sample }
     ensures { IfOk result (IsRangePart l.now v.now config.now column table.now.names
         (PIECE * piece) (piece_of l.now.profile.sample piece)) }
 {
     let _compact = l.profile.get();
-    let filters = Filters::without_tables(alloc, l, v, config)?;
+    let filters = Filters::without_tables(alloc, l, v, &config.filtering)?;
     let scope = Scope::whole(l, v, config, &filters, column, table);
     let part = count_piece_of(alloc, &scope, piece);
     mem::drop(filters);

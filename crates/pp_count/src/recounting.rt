@@ -2,7 +2,7 @@
 ghost use Rattle.std.specs.Prelude.{◌≡◌, ◌++◌, ◌*◌, ◌<◌, ◌^◌, [], ◌∷◌, if◌then◌else◌, None, length, map, replicate, slice_index_or, All, IfOk};
 ghost use Rattle.pp_model.specs.Finders.{Finders};
 ghost use Rattle.pp_count.specs.Seeing.{HoldsFilters};
-ghost use Rattle.pp_count.specs.Counted.{CanCount, IsCountedOf, report_samples};
+ghost use Rattle.pp_count.specs.Counted.{report_samples};
 ghost use Rattle.pp_count.specs.Edges.{is_kept_key, is_marked, edge_of_sum, AreOnce, ArePairPlaces, HasPairPlaces};
 ghost use Rattle.pp_count.specs.EdgeSums.{AreEdgesOf, AreEdgesAbout, HasPairSums, kept_numbers};
 
@@ -15,7 +15,6 @@ use crate::survey::Survey;
 use crate::tallies::entries;
 use crate::waves::count_all;
 use pp_base::{Gate, List, Memory};
-use pp_model::{Config, Loaded, Verdicts};
 use std::alloc::Global;
 use std::thread::Threads;
 
@@ -28,44 +27,12 @@ pub struct Ends<'k, 'm> {
     pub marked: &'m [bool],
 }
 
-/// The edges between the names of `counted` that are kept, as `edges` has them. `Err` is want of memory.
-pub fn recount<R: Threads + Sync, G: Gate>(
-    rt: &R,
-    alloc: Global,
-    l: &Loaded,
-    v: &Verdicts,
-    counted: &Counted,
-    keep: &List<bool>,
-    config: &Config,
-    column: Option<u32>,
-    gate: &G,
-) -> Result<List<Edge>, Memory>
-    requires can { CanCount l.now.profile v.now config.now column }
-    requires counted { IsCountedOf l.now v.now config.now column counted.now }
-    requires keep { length keep.now ≡ length counted.now.sums.names }
-    ensures edges { (f : Finders) → HoldsFilters l.now v.now config.now f →
-        IfOk result (λ edges. AreEdgesOf l.now.profile
-        (report_samples l.now.profile f config.now column)
-        counted.now.sums.names keep.now edges) }
-    ensures within { IfOk result (All (λ e.
-        (e.from < length counted.now.sums.names) × (e.to < length counted.now.sums.names))) }
-{
-    let survey = Survey {
-        l,
-        v,
-        config,
-        column,
-        counted,
-    };
-    edges(rt, alloc, &survey, keep, gate)
-}
-
 /// The edges between the names of the report's sums that are kept, after the other keys are left out of each stack: for
 /// each pair that occurs, the sum over the samples in which it does. `keep` has one entry per name. `Err` is want of
 /// memory.
 ///
 /// Of the leaf-first stack A, B, C with B left out, the one edge goes from C to A. No edge goes from a key to itself.
-pub fn edges<R: Threads + Sync, G: Gate>(
+pub fn recount<R: Threads + Sync, G: Gate>(
     rt: &R,
     alloc: Global,
     survey: &Survey<'_>,
@@ -74,7 +41,7 @@ pub fn edges<R: Threads + Sync, G: Gate>(
 ) -> Result<List<Edge>, Memory>
     requires { length keep.now ≡ length survey.now.counted.now.sums.names }
     ensures edges { (f : Finders) →
-        HoldsFilters survey.now.l.now survey.now.v.now survey.now.config.now f →
+        HoldsFilters survey.now.l.now survey.now.v.now survey.now.config.now.filtering f →
         IfOk result (λ edges. AreEdgesOf survey.now.l.now.profile
         (report_samples survey.now.l.now.profile f survey.now.config.now survey.now.column)
         survey.now.counted.now.sums.names keep.now edges) }
@@ -89,7 +56,7 @@ pub fn edges<R: Threads + Sync, G: Gate>(
     Ok(edges)
 }
 
-/// Those of `edges` of which an end is marked: all of them, where each name that is kept is. No other pair is counted,
+/// Those of `recount` of which an end is marked: all of them, where each name that is kept is. No other pair is counted,
 /// so that a few names cost a few sums.
 pub fn edges_about<R: Threads + Sync, G: Gate>(
     rt: &R,
@@ -100,12 +67,12 @@ pub fn edges_about<R: Threads + Sync, G: Gate>(
 ) -> Result<List<Edge>, Memory>
     requires { length ends.now.keep.now ≡ length survey.now.counted.now.sums.names }
     ensures edges { (f : Finders) →
-        HoldsFilters survey.now.l.now survey.now.v.now survey.now.config.now f →
+        HoldsFilters survey.now.l.now survey.now.v.now survey.now.config.now.filtering f →
         IfOk result (λ edges. AreEdgesAbout survey.now.l.now.profile
         (report_samples survey.now.l.now.profile f survey.now.config.now survey.now.column)
         survey.now.counted.now.sums.names ends.now.keep.now ends.now.marked.now edges) }
     ensures all { (f : Finders) →
-        HoldsFilters survey.now.l.now survey.now.v.now survey.now.config.now f →
+        HoldsFilters survey.now.l.now survey.now.v.now survey.now.config.now.filtering f →
         ends.now.keep.now ≡ ends.now.marked.now →
         IfOk result (λ edges. AreEdgesOf survey.now.l.now.profile
         (report_samples survey.now.l.now.profile f survey.now.config.now survey.now.column)
@@ -144,6 +111,7 @@ fn pair_sums<'x, R: Threads + Sync, G: Gate>(
         l: survey.l,
         v: survey.v,
         config: survey.config,
+        grouping: survey.config.grouping,
         filters: &counted.filters,
         column: survey.column,
         table: &counted.table,

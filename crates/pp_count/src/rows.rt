@@ -1,7 +1,7 @@
 //! Rows of key numbers, most of them of one number, in two flat lists.
 ghost use Rattle.std.specs.Prelude.{◌≡◌, ◌∷◌, ◌++◌, ◌<◌, [], length, slice_index_or, IfOk};
 ghost use Rattle.pp_base.specs.Front.{IsFront};
-ghost use Rattle.pp_count.specs.Rows.{row_by, IsWithin};
+ghost use Rattle.pp_count.specs.Rows.{row_by, IsRowWithin};
 
 use pp_base::{List, Memory};
 use std::alloc::Global;
@@ -21,13 +21,13 @@ pub struct Rows {
 
 impl Model for Rows {
     ghost use Rattle.std.specs.Prelude.{ℕ, map, All, List as Seq};
-    ghost use Rattle.pp_count.specs.Rows.{row_by, IsWithin};
+    ghost use Rattle.pp_count.specs.Rows.{row_by, IsRowWithin};
 
     ghost Value = { Seq (Seq ℕ) };
 
     ghost view = { λ r. map (row_by r.long) r.entries };
 
-    ghost invariant = { λ r. All (IsWithin r.long) r.entries };
+    ghost invariant = { λ r. All (IsRowWithin r.long) r.entries };
 }
 
 impl Rows {
@@ -95,7 +95,7 @@ fn add_several(row: &[u32], numbers: &mut Vec<u64>) -> Result<(), Memory>
 // The entry of the row, which is put into `long` unless it is one number below `LONG`.
 fn entry_for(long: &mut List<u32>, row: &[u32]) -> Result<u32, Memory>
     ensures grown { IsFront long.old long.new }
-    ensures within { IfOk result (IsWithin long.new) }
+    ensures within { IfOk result (IsRowWithin long.new) }
     ensures row { IfOk result (λ entry. row_by long.new entry ≡ row.now) }
 {
     if let [number] = row {
@@ -109,7 +109,7 @@ fn entry_for(long: &mut List<u32>, row: &[u32]) -> Result<u32, Memory>
 // Adds the row behind its count.
 fn put_row(long: &mut List<u32>, row: &[u32]) -> Result<u32, Memory>
     ensures grown { IsFront long.old long.new }
-    ensures within { IfOk result (IsWithin long.new) }
+    ensures within { IfOk result (IsRowWithin long.new) }
     ensures row { IfOk result (λ entry. row_by long.new entry ≡ row.now) }
 {
     let place = long.len();

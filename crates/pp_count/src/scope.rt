@@ -8,7 +8,7 @@ use crate::filters::Filters;
 use crate::pairs::Pairing;
 use crate::table::KeyTable;
 use pp_keys::HashKeys;
-use pp_model::{Config, Loaded, Sample, Verdicts};
+use pp_model::{Config, Grouping, Loaded, Sample, Verdicts};
 
 /// What all pieces of a count share.
 #[derive(Clone, Copy)]
@@ -17,13 +17,15 @@ pub struct Scope<'a> {
     pub l: &'a Loaded,
     /// What the patterns of the report find of its texts.
     pub v: &'a Verdicts,
-    /// The variables of the report.
+    /// The variables of the report, whose own `grouping` is not read.
     pub config: &'a Config,
+    /// What the keys are: those of the report, or others that a report counts by.
+    pub grouping: Grouping,
     /// The filters of `v` and `config`.
     pub filters: &'a Filters,
     /// The column of values that is counted.
     pub column: Option<u32>,
-    /// The table of key numbers of `l` and `config`.
+    /// The table of key numbers of `l` by `grouping`.
     pub table: &'a KeyTable,
     /// None where keys are counted. Else pairs of these keys are.
     pub over: Option<&'a Pairing>,
@@ -45,6 +47,7 @@ impl<'a> Scope<'a> {
           l = l.entry;
           v = v.entry;
           config = config.entry;
+          grouping = config.now.grouping;
           filters = filters.entry;
           column = column;
           table = table.entry;
@@ -56,6 +59,7 @@ impl<'a> Scope<'a> {
             l,
             v,
             config,
+            grouping: config.grouping,
             filters,
             column,
             table,

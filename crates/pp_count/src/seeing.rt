@@ -29,9 +29,9 @@ pub fn see(
     ensures below { IfOk result (λ _.
         All (λ k. k < length scope.now.table.now.names) keys.new.items) }
     ensures seen { (f : Finders) →
-        HoldsFilters scope.now.l.now scope.now.v.now scope.now.config.now f →
-        IfOk result (λ kept. option_map (keys_of_stack scope.now.l.now.profile scope.now.config.now)
-        (filtered_stack scope.now.l.now.profile f scope.now.config.now s.now)
+        HoldsFilters scope.now.l.now scope.now.v.now scope.now.config.now.filtering f →
+        IfOk result (λ kept. option_map (keys_of_stack scope.now.l.now.profile scope.now.grouping)
+        (filtered_stack scope.now.l.now.profile f scope.now.config.now.filtering s.now)
         ≡ kept_if kept (map (written_key scope.now.l.now.profile scope.now.table.now.names)
         keys.new.items)) }
 {
@@ -40,7 +40,7 @@ pub fn see(
     if !tag_kept(scope.l, scope.v, &filters.tagfocus, &filters.tagignore, s) {
         return Ok(false);
     }
-    if !scope.config.noinlines && cuts_nothing(scope.l, scope.v) {
+    if !scope.grouping.noinlines && cuts_nothing(scope.l, scope.v) {
         if !keeps_sample(scope.l, scope.v, &filters.tables, s) {
             return Ok(false);
         }
@@ -57,14 +57,14 @@ pub fn see(
 // Adds the key numbers of all frames of the sample, leaf first. No stack is made for it.
 fn number_all(scope: &Scope, s: &Sample, keys: &mut Vec<u64>) -> Result<(), Memory>
     requires refers { RefersTo scope.now.l.now.profile s.now }
-    requires table { IsKeyTable scope.now.l.now.profile scope.now.config.now scope.now.table.now }
-    requires all { scope.now.config.now.noinlines ≡ false }
+    requires table { IsKeyTable scope.now.l.now.profile scope.now.grouping scope.now.table.now }
+    requires all { scope.now.grouping.noinlines ≡ false }
     requires none { keys.old.items ≡ [] }
     ensures below { IfOk result (λ _.
         All (λ k. k < length scope.now.table.now.names) keys.new.items) }
     ensures named { IfOk result (λ _.
         map (written_key scope.now.l.now.profile scope.now.table.now.names) keys.new.items
-        ≡ keys_of_stack scope.now.l.now.profile scope.now.config.now
+        ≡ keys_of_stack scope.now.l.now.profile scope.now.grouping
         (stack_of scope.now.l.now.profile s.now)) }
 {
     // Each id is a place plus 1.
@@ -78,17 +78,17 @@ fn number_all(scope: &Scope, s: &Sample, keys: &mut Vec<u64>) -> Result<(), Memo
 // Adds the key numbers of the frames that count, leaf first.
 fn number_stack(scope: &Scope, stack: &Stack, keys: &mut Vec<u64>) -> Result<(), Memory>
     requires frames { IsStackOf scope.now.l.now.profile stack.now }
-    requires table { IsKeyTable scope.now.l.now.profile scope.now.config.now scope.now.table.now }
+    requires table { IsKeyTable scope.now.l.now.profile scope.now.grouping scope.now.table.now }
     requires none { keys.old.items ≡ [] }
     ensures below { IfOk result (λ _.
         All (λ k. k < length scope.now.table.now.names) keys.new.items) }
     ensures named { IfOk result (λ _.
         map (written_key scope.now.l.now.profile scope.now.table.now.names) keys.new.items
-        ≡ keys_of_stack scope.now.l.now.profile scope.now.config.now stack.now) }
+        ≡ keys_of_stack scope.now.l.now.profile scope.now.grouping stack.now) }
 {
     let frames = stack.as_slice();
     for (place, frame) in frames.iter().enumerate() {
-        if counted(stack, place, scope.config.noinlines) {
+        if counted(stack, place, scope.grouping.noinlines) {
             let number = number_of(scope, frame);
             keys.push(number)?;
         }
@@ -99,10 +99,10 @@ fn number_stack(scope: &Scope, stack: &Stack, keys: &mut Vec<u64>) -> Result<(),
 // The number of the frame's key.
 fn number_of(scope: &Scope, frame: &Frame) -> u64
     requires frame { IsFrameOf scope.now.l.now.profile frame.now }
-    requires table { IsKeyTable scope.now.l.now.profile scope.now.config.now scope.now.table.now }
+    requires table { IsKeyTable scope.now.l.now.profile scope.now.grouping scope.now.table.now }
     ensures below { result < length scope.now.table.now.names }
     ensures named { written_key scope.now.l.now.profile scope.now.table.now.names result
-        ≡ key_of_frame scope.now.l.now.profile scope.now.config.now frame.now }
+        ≡ key_of_frame scope.now.l.now.profile scope.now.grouping frame.now }
 {
     let row = scope.table.location.row(frame.location as usize);
     item(row, frame.row.unwrap_or(0))

@@ -8,7 +8,7 @@ use std::alloc::Global;
 
 /// A key number and what it has so far.
 #[derive(Clone, Copy)]
-pub struct Row {
+pub struct TallyRow {
     /// The key's number.
     pub key: u64,
     /// What it has.
@@ -21,7 +21,7 @@ pub struct Slots {
     /// For each key number, the place of its row. A key has no row where the one at that place has another number.
     pub place: Vec<u32>,
     /// The rows, in the order of first sight.
-    pub rows: Vec<Row>,
+    pub rows: Vec<TallyRow>,
 }
 
 impl Slots {
@@ -85,7 +85,7 @@ impl Slots {
     {
         let place = self.place[key as usize] as usize;
         if place < self.rows.len() && self.rows[place].key == key {
-            self.rows[place] = Row { key, tally };
+            self.rows[place] = TallyRow { key, tally };
             return Ok(());
         }
         self.add(key, tally)
@@ -103,7 +103,7 @@ impl Slots {
             ≡ slot_tally self.old.place.items self.old.rows.items k) }
     {
         let place = u32::try_from(self.rows.len()).map_err(|_| Memory)?;
-        self.rows.push(Row { key, tally })?;
+        self.rows.push(TallyRow { key, tally })?;
         self.place[key as usize] = place;
         Ok(())
     }

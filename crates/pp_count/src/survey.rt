@@ -23,21 +23,22 @@ pub struct Survey<'a> {
     pub column: Option<u32>,
     /// What the samples come to.
     pub counted: &'a Counted,
-    pub ghost can: { CanCount l.now.profile v.now config.now column } by { Prim.hlevel props },
+    pub ghost can: { CanCount l.now.profile v.now config.now.filtering column } by { Prim.hlevel props },
     pub ghost counts: { IsCountedOf l.now v.now config.now column counted.now } by { Prim.hlevel props },
 }
 
 impl<'a> Survey<'a> {
     /// The filters of the report, ready for its samples.
     pub fn filters(&self) -> &'a Filters
-        ensures { AreFilters self.now.l.now.profile self.now.v.now self.now.config.now result.now }
+        ensures { AreFilters self.now.l.now.profile self.now.v.now self.now.config.now.filtering
+            result.now }
     {
         &self.counted.filters
     }
 
     /// The key numbers of the report's lines of each location.
     pub fn table(&self) -> &'a KeyTable
-        ensures { IsKeyTable self.now.l.now.profile self.now.config.now result.now }
+        ensures { IsKeyTable self.now.l.now.profile self.now.config.now.grouping result.now }
     {
         &self.counted.table
     }

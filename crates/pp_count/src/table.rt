@@ -11,7 +11,7 @@ use crate::rows::Rows;
 use pp_base::{List, Memory};
 use pp_grain::{Key, Names, key_of};
 use pp_keys::HashKeys;
-use pp_model::{Config, Frame, Loaded, Stack};
+use pp_model::{Frame, Grouping, Loaded, Stack};
 use std::alloc::Global;
 use std::mem;
 
@@ -25,17 +25,17 @@ pub struct KeyTable {
     pub location: Rows,
 }
 
-/// Numbers the keys of all lines, by the configuration's grain. `hash_keys` are for the tables of the report.
+/// Numbers the keys of all lines, by this grouping. `hash_keys` are for the tables of the report.
 pub fn key_table(
     alloc: Global,
     hash_keys: HashKeys,
     l: &Loaded,
-    config: &Config,
+    grouping: Grouping,
 ) -> Result<KeyTable, Memory>
-    ensures { IfOk result (IsKeyTable l.now.profile config.now) }
+    ensures { IfOk result (IsKeyTable l.now.profile grouping) }
 {
     let mut names = Names::new(alloc, hash_keys)?;
-    match number_locations(alloc, l, config, &mut names) {
+    match number_locations(alloc, l, grouping, &mut names) {
         Ok(location) => Ok(KeyTable { names, location }),
         Err(Memory) => {
             mem::drop(names);
@@ -48,18 +48,18 @@ pub fn key_table(
 fn number_locations(
     alloc: Global,
     l: &Loaded,
-    config: &Config,
+    grouping: Grouping,
     names: &mut Names,
 ) -> Result<Rows, Memory>
     requires { All (IsKeyOf l.now.profile) names.old }
     ensures { IfOk result (λ location.
-        AreRows config.now.grain config.now.showcolumns l.now.profile names.new location) }
+        AreRows grouping.grain grouping.showcolumns l.now.profile names.new location) }
 {
     let mut location = Rows::new(alloc);
     let mut stack = List::new(alloc);
     let mut row = List::new(alloc);
     for place in 0..l.profile.get().location.len() {
-        number_location(l, config, place as u64, names, &mut stack, &mut row)?;
+        number_location(l, grouping, place as u64, names, &mut stack, &mut row)?;
         location.push(row.as_slice())?;
     }
     let _distinct = names.len();
@@ -69,7 +69,7 @@ fn number_locations(
 // The numbers of the keys of the location's frames, in the place of what `row` held. `stack` is room for the frames.
 fn number_location(
     l: &Loaded,
-    config: &Config,
+    grouping: Grouping,
     location: u64,
     names: &mut Names,
     stack: &mut Stack,
@@ -78,17 +78,17 @@ fn number_location(
     requires { location < length l.now.profile.location }
     ensures grown { IfOk result (λ _. Grown l.now.profile names.old names.new) }
     ensures row { IfOk result (λ _.
-        IsRow config.now.grain config.now.showcolumns l.now.profile names.new location row.new) }
+        IsRow grouping.grain grouping.showcolumns l.now.profile names.new location row.new) }
 {
     row.truncate(0);
     frames_of(l, location, stack)?;
-    number_frames(l, config, stack.as_slice(), names, row)
+    number_frames(l, grouping, stack.as_slice(), names, row)
 }
 
 // Adds the numbers of the frames' keys.
 fn number_frames(
     l: &Loaded,
-    config: &Config,
+    grouping: Grouping,
     stack: &[Frame],
     names: &mut Names,
     row: &mut List<u32>,
@@ -96,11 +96,11 @@ fn number_frames(
     requires frames { IsStackOf l.now.profile stack.now }
     requires none { row.old ≡ [] }
     ensures grown { IfOk result (λ _. Grown l.now.profile names.old names.new) }
-    ensures row { IfOk result (λ _. IsNumbered config.now.grain config.now.showcolumns
+    ensures row { IfOk result (λ _. IsNumbered grouping.grain grouping.showcolumns
         l.now.profile names.new (map (written l.now.profile) stack.now) row.new) }
 {
     for frame in stack {
-        let key = key_of(l, frame, config.grain, config.showcolumns);
+        let key = key_of(l, frame, grouping.grain, grouping.showcolumns);
         let number = key_number(names, key)?;
         row.push(number)?;
     }

@@ -1,10 +1,10 @@
 //! Tallies by key number: in a list where they are few, by slots where enough are added, else in a map.
 ghost use Rattle.std.specs.Prelude.{◌≡◌, ◌≢◌, ℕ, ◌+◌, ◌+ℤ◌, ◌<◌, ◌≤◌, ◌^◌, nat_abs, nat_eq, nat_lt, slice_index_or, length, IfOk, if◌then◌else◌, [], ◌++◌};
-ghost use Rattle.pp_count.specs.Tally.{tally_at, no_tally, placed_tally, has_place, credited, with_cum, with_flat, with_sample, with_seen, tally_plus, tally_added, tally_entry};
+ghost use Rattle.pp_count.specs.Tally.{tally_at, no_tally, placed_tally, has_row_at, credited, with_cum, with_flat, with_sample, with_seen, tally_plus, tally_added, tally_entry};
 ghost use Rattle.pp_count.specs.Parts.{sums_of, flat_size, cum_size};
 
 use crate::part::KeySum;
-use crate::slots::{Row, Slots};
+use crate::slots::{Slots, TallyRow};
 use crate::tally::Tally;
 use indexmap::IndexMap;
 use pp_base::{List, Memory};
@@ -275,11 +275,11 @@ fn push_row(
     sums: &mut List<KeySum>,
     tallies: &Tallies,
     place: usize,
-    row: &Row,
+    row: &TallyRow,
 ) -> Result<(), Memory>
     ensures { IfOk result (λ _. (k : ℕ) → sums_of k sums.new
         ≡ sums_of k sums.old ++ (if nat_eq row.now.key k
-        then (if has_place tallies.now place k then tally_entry row.now.key row.now.tally else [])
+        then (if has_row_at tallies.now place k then tally_entry row.now.key row.now.tally else [])
         else [])) }
 {
     let number = row.key as usize;

@@ -48,23 +48,26 @@ impl Totals {
 /// What the sample adds, whose selected value is `value`. It is nothing where percentages are taken of the samples that
 /// the filters leave, and `left` is false. Chosen samples are not added up.
 pub(crate) fn totals_of(scope: &Scope, s: &Sample, value: i64, left: bool) -> Totals
-    requires value { value ≡ selected scope.now.column scope.now.config.now.divide_by s.now }
+    requires value { value
+        ≡ selected scope.now.column scope.now.config.now.presentation.divide_by s.now }
     requires left { (f : Finders) →
-        HoldsFilters scope.now.l.now scope.now.v.now scope.now.config.now f →
-        is_some (filtered_stack (profile_in_scope scope.now) f scope.now.config.now s.now) ≡ left }
+        HoldsFilters scope.now.l.now scope.now.v.now scope.now.config.now.filtering f →
+        is_some (filtered_stack (profile_in_scope scope.now) f scope.now.config.now.filtering s.now)
+        ≡ left }
     ensures { HasTotals scope.now (s.now ∷ []) result }
 {
     match scope.chosen {
         Some(_) => Totals::none(),
-        None if scope.config.relative_percentages => totals_if(scope, s, value, left),
+        None if scope.config.presentation.relative_percentages => totals_if(scope, s, value, left),
         None => sample_totals(scope, s, value),
     }
 }
 
 // Those of the sample, or of none.
 fn totals_if(scope: &Scope, s: &Sample, value: i64, left: bool) -> Totals
-    requires { value ≡ selected scope.now.column scope.now.config.now.divide_by s.now }
-    ensures { AreTotals (profile_in_scope scope.now) scope.now.config.now scope.now.column
+    requires { value ≡ selected scope.now.column scope.now.config.now.presentation.divide_by s.now }
+    ensures { AreTotals (profile_in_scope scope.now) scope.now.config.now.presentation
+        scope.now.column
         (if left then s.now ∷ [] else []) result }
 {
     if left {
@@ -76,8 +79,9 @@ fn totals_if(scope: &Scope, s: &Sample, value: i64, left: bool) -> Totals
 
 // Those of the sample.
 fn sample_totals(scope: &Scope, s: &Sample, value: i64) -> Totals
-    requires { value ≡ selected scope.now.column scope.now.config.now.divide_by s.now }
-    ensures { AreTotals (profile_in_scope scope.now) scope.now.config.now scope.now.column
+    requires { value ≡ selected scope.now.column scope.now.config.now.presentation.divide_by s.now }
+    ensures { AreTotals (profile_in_scope scope.now) scope.now.config.now.presentation
+        scope.now.column
         (s.now ∷ []) result }
 {
     let size = value.unsigned_abs();

@@ -77,7 +77,7 @@ fn count_wave<R: Threads + Sync, G: Gate>(
     ensures { IfOk result (λ _. AreCounted job.now.scope
         (take (PIECE * (job.now.first + job.now.pieces)) (samples_in_scope job.now.scope)) sofar.new) }
 {
-    let workers = job.scope.config.workers;
+    let workers = job.scope.config.environment.workers;
     let parts = run_pieces(rt, job.alloc, job, job.pieces, workers, Deal::Round, gate)?;
     for part in parts.as_slice() {
         sofar.add(job.alloc, part)?;

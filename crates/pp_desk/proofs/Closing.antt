@@ -20,7 +20,7 @@ use Rattle.pp_desk.specs.Closes.{Closes}
 use Rattle.pp_desk.proofs.Quiet.{at_rest}
 
 -- the files after some effects and then others
-files_after-append : (files : Option FileMap) (es fs : List Effect) → files_after files (es ++ fs) ≡ files_after (files_after files es) fs
+pub files_after-append : (files : Option FileMap) (es fs : List Effect) → files_after files (es ++ fs) ≡ files_after (files_after files es) fs
 files_after-append files [] fs = refl
 files_after-append files (ToOut bytes ∷ es) fs = files_after-append files es fs
 files_after-append files (ToErr bytes ∷ es) fs = files_after-append files es fs

@@ -84,7 +84,7 @@ pub record ToldCourse (T : Type 0) : Type 0 where
   pub course : Course T
   pub asked : List (List ℕ)
 
--- The course is told where the files, the input and the matcher tell what they hold at the start, and the matcher its
+-- The course is told where files, input and matcher tell what they hold at the start. The matcher also has to tell its
 -- answers at the end.
 abbrev pub told_course : {T : Type 0} → Script T → Option FileMap → Option (List (List ℕ))
     → Option (List InputLine) → Option (List Answer) → Option (List Answer)

@@ -10,8 +10,8 @@ use Rattle.pp_desk.specs.declared.window.TheConstants.{WINDOW_LIMIT}
 use Rattle.pp_desk.specs.Lines.{lines_in, lines_of, next_of, after_next}
 use Rattle.pp_base.specs.Marks.{is_line_end}
 
--- What a reader holds: how many bytes of the present line it passed over, since the line is too long, and the bytes
--- behind them that it took of the source. Also how many bytes it may still take, and whether the source has ended.
+-- What a reader holds: how many bytes of the present line it passed over, since the line is too long. Behind them stand
+-- the bytes that it took of the source. It may still take `room` bytes, and `ended` says whether the source has ended.
 pub record ReaderHeld : Type 0 where
   pub passed : ℕ
   pub held : List ℕ

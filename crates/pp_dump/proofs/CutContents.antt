@@ -3,13 +3,13 @@ use Rattle.std.proofs.Common.{◌≡◌, ℕ, ℤ, List, [], ◌∷◌, ◌++◌
 use Rattle.std.specs.List.{AllByRecursion, flat_map, filter_map, cons_option}
 use Rattle.std.specs.Option.{option_map_or}
 use Rattle.std.proofs.lemmas.List.{map-append}
-use Rattle.pp_model.specs.declared.config.Config.{Config}
 use Rattle.pp_model.specs.declared.frame.Frame.{Frame}
 use Rattle.pp_model.specs.declared.loaded.Loaded.{Loaded}
 use Rattle.pp_model.specs.declared.profile.Location.{Location}
 use Rattle.pp_model.specs.declared.profile.Sample.{Sample}
 use Rattle.pp_model.specs.declared.profile.Profile.{Profile}
 use Rattle.pp_model.specs.declared.verdicts.Verdicts.{Verdicts}
+use Rattle.pp_model.specs.declared.filtering.Filtering.{Filtering}
 use Rattle.pp_model.specs.Finders.{Finders, HoldsFinders}
 use Rattle.pp_model.specs.Lookup.{text_of}
 use Rattle.pp_model.specs.Rules.{NoRuleFails, IsCompact}
@@ -29,34 +29,34 @@ use Rattle.pp_dump.specs.Places.{spread_of, AddsSamples}
 use Rattle.pp_count.proofs.KeptSamples.{made_of_kept}
 
 -- what the filters leave of the samples
-module _ (p : Profile) (f : Finders) (config : Config) where
+module _ (p : Profile) (f : Finders) (filtering : Filtering) where
   one_told : (s : Sample) (stack : Option (List Frame)) (rest : List (SampleText × List ℤ))
       → map (told p) (option_map_or (spread_of p f s) stack []) ++ rest ≡ cons_option (option_map (cut_sample p f s) stack) rest
   one_told s None rest = refl
   one_told s (Some stack) rest = ap (λ ls. (record { locations = ls; labels = map (label_text (text_of p)) (shown_labels p f s.label) }, s.value) ∷ rest) (groups_told p (by_place stack))
 
   all_told : (xs : List Sample)
-      → map (told p) (flat_map (λ s. option_map_or (spread_of p f s) (filtered_stack p f config s) []) xs)
-      ≡ filter_map (λ s. option_map (cut_sample p f s) (filtered_stack p f config s)) xs
+      → map (told p) (flat_map (λ s. option_map_or (spread_of p f s) (filtered_stack p f filtering s) []) xs)
+      ≡ filter_map (λ s. option_map (cut_sample p f s) (filtered_stack p f filtering s)) xs
   all_told [] = refl
   all_told (s ∷ xs) =
-      map-append (told p) (option_map_or (spread_of p f s) (filtered_stack p f config s) []) _
-      ∙ ap (λ rest. map (told p) (option_map_or (spread_of p f s) (filtered_stack p f config s) []) ++ rest) (all_told xs)
-      ∙ one_told s (filtered_stack p f config s) _
+      map-append (told p) (option_map_or (spread_of p f s) (filtered_stack p f filtering s) []) _
+      ∙ ap (λ rest. map (told p) (option_map_or (spread_of p f s) (filtered_stack p f filtering s) []) ++ rest) (all_told xs)
+      ∙ one_told s (filtered_stack p f filtering s) _
 
 -- What the profile says that is merged alone is what the saved profile says.
-pub contents_saved : (l : Loaded) (v : Verdicts) (f : Finders) (config : Config) (kept : List ℕ) (samples : List Sample) (locations : List Location)
-    → NoRuleFails l.profile → HoldsFinders l v f → kept ≡ filtered_from l.profile f config 0 l.profile.sample
+pub contents_saved : (l : Loaded) (v : Verdicts) (f : Finders) (filtering : Filtering) (kept : List ℕ) (samples : List Sample) (locations : List Location)
+    → NoRuleFails l.profile → HoldsFinders l v f → kept ≡ filtered_from l.profile f filtering 0 l.profile.sample
     → AddsSamples l v (samples_at l.profile kept) [] l.profile.location samples locations
-    → contents (with_cut l.profile samples locations) [] ≡ saved_contents l.profile f config
-contents_saved l v f config kept samples locations valid finds is adds =
+    → contents (with_cut l.profile samples locations) [] ≡ saved_contents l.profile f filtering
+contents_saved l v f filtering kept samples locations valid finds is adds =
     let p : Profile = l.profile in
     let each = subst (AllByRecursion (IsCutSample p locations)) (sym adds.is) adds.each in
     contents_made p samples locations valid adds.places each
     ∙ ap (made_contents p)
     (ap (λ (xs : List Sample). map (told p) (map (spread_in locations) xs)) adds.is
-    ∙ ap (map (told p)) (adds.are f finds ∙ sym (made_of_kept p f config (spread_of p f) kept is))
-    ∙ all_told p f config p.sample)
+    ∙ ap (map (told p)) (adds.are f finds ∙ sym (made_of_kept p f filtering (spread_of p f) kept is))
+    ∙ all_told p f filtering p.sample)
 
 -- What is merged alone keeps the table rules,
 pub alone_valid : (cut q : Profile) → q ≡ merged cut [] → NoRuleFails q

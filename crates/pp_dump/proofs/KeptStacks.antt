@@ -8,10 +8,10 @@ use Rattle.std.proofs.lemmas.List.Elements.{All-from_recursion, recursion_from_A
 use Rattle.std.proofs.lemmas.Map.Made.{AllPairs-from_IsDistinct}
 use Rattle.std.proofs.lemmas.Option.{none-some, same_Some}
 use Rattle.pp_base.proofs.Lists.{all_by}
-use Rattle.pp_model.specs.declared.config.Config.{Config}
 use Rattle.pp_model.specs.declared.frame.Frame.{Frame}
 use Rattle.pp_model.specs.declared.profile.Sample.{Sample}
 use Rattle.pp_model.specs.declared.profile.Profile.{Profile}
+use Rattle.pp_model.specs.declared.filtering.Filtering.{Filtering}
 use Rattle.pp_model.specs.Conditions.{RefersTo}
 use Rattle.pp_model.specs.Finders.{Finders}
 use Rattle.pp_model.specs.Rules.{NoRuleFails, IsCompact}
@@ -113,38 +113,38 @@ module _ (n : ℕ) (items : List (SampleText × List ℤ)) where
       (all_distinct Among same_sample (keys_of same_sample items)
       (all_mapped Among (λ (item : SampleText × List ℤ). item.0) items items_among))))))
 
-module _ (p : Profile) (f : Finders) (config : Config) (valid : NoRuleFails p) where
+module _ (p : Profile) (f : Finders) (filtering : Filtering) (valid : NoRuleFails p) where
   refers : AllByRecursion (RefersTo p) p.sample
   refers = recursion_from_All (RefersTo p) p.sample (λ k d within. refers_from_valid p (get_or p.sample k d) valid (sample_at p k d within))
 
   -- each sample that is left has a value per column
-  pub wide : AllByRecursion (λ item. length item.1 ≡ length p.sample_type) (cut_samples p f config)
+  pub wide : AllByRecursion (λ item. length item.1 ≡ length p.sample_type) (cut_samples p f filtering)
   wide =
-      all_some (λ item. length item.1 ≡ length p.sample_type) (λ s. option_map (cut_sample p f s) (filtered_stack p f config s)) p.sample
-      (recursion_from_All _ p.sample (λ k d within item is. one (get_or p.sample k d) (filtered_stack p f config (get_or p.sample k d)) (eqb-true _ _ (passes _ p.sample valid.values k d within)) item is))
+      all_some (λ item. length item.1 ≡ length p.sample_type) (λ s. option_map (cut_sample p f s) (filtered_stack p f filtering s)) p.sample
+      (recursion_from_All _ p.sample (λ k d within item is. one (get_or p.sample k d) (filtered_stack p f filtering (get_or p.sample k d)) (eqb-true _ _ (passes _ p.sample valid.values k d within)) item is))
     where
       one : (s : Sample) (o : Option (List Frame)) → length s.value ≡ length p.sample_type → (item : SampleText × List ℤ) → option_map (cut_sample p f s) o ≡ Some item → length item.1 ≡ length p.sample_type
       one s None fits item is = absurd (none-some item is)
       one s (Some stack) fits item is = ap (λ (x : SampleText × List ℤ). length x.1) (sym (same_Some (cut_sample p f s stack) item is)) ∙ fits
 
   -- the samples that the filters leave, of a profile that stays as it is when it is merged alone
-  pub left_is : AllByRecursion (λ m. m.start < 2 ^ 64) (all_mappings (p ∷ [])) → merged p [] ≡ p → left_stacks p f config ≡ map with_stack (cut_samples p f config)
+  pub left_is : AllByRecursion (λ m. m.start < 2 ^ 64) (all_mappings (p ∷ [])) → merged p [] ≡ p → left_stacks p f filtering ≡ map with_stack (cut_samples p f filtering)
   left_is starts again =
       let compact : IsCompact p = subst IsCompact again (compact_written (contents p [])) in
-      left_are p (text_zero p valid) starts again f config compact.locations p.sample refers
+      left_are p (text_zero p valid) starts again f filtering compact.locations p.sample refers
 
   -- The saved profile of such a one.
-  pub keeps_stacks : AllByRecursion (λ m. m.start < 2 ^ 64) (all_mappings (p ∷ [])) → merged p [] ≡ p → IsSettled (saved_contents p f config)
-      → KeepsStacks p f config (saved p f config)
+  pub keeps_stacks : AllByRecursion (λ m. m.start < 2 ^ 64) (all_mappings (p ∷ [])) → merged p [] ≡ p → IsSettled (saved_contents p f filtering)
+      → KeepsStacks p f filtering (saved p f filtering)
   keeps_stacks starts again settled =
-      let c : Contents = saved_contents p f config in
+      let c : Contents = saved_contents p f filtering in
       let n : ℕ = length p.sample_type in
-      let items : List (SampleText × List ℤ) = cut_samples p f config in
-      let whole : whole_stacks (saved p f config) ≡ map with_stack c.samples = whole_back c settled in
-      let left : left_stacks p f config ≡ map with_stack items = left_is starts again in
+      let items : List (SampleText × List ℤ) = cut_samples p f filtering in
+      let whole : whole_stacks (saved p f filtering) ≡ map with_stack c.samples = whole_back c settled in
+      let left : left_stacks p f filtering ≡ map with_stack items = left_is starts again in
       record {
         each =
-            subst (λ (those : List (StackText × List ℤ)). All (Contains (without_values those)) (without_values (whole_stacks (saved p f config)))) (sym left)
+            subst (λ (those : List (StackText × List ℤ)). All (Contains (without_values those)) (without_values (whole_stacks (saved p f filtering)))) (sym left)
             (subst (λ (these : List (StackText × List ℤ)). All (Contains (without_values (map with_stack items))) (without_values these)) (sym whole) (left_among n items));
         apart = subst (λ (these : List (StackText × List ℤ)). AllPairs (λ a b. a ≢ b) (without_values these)) (sym whole) (stacks_apart c settled);
         counted = subst (All (λ s. counts s ≡ true)) (sym whole) (stacks_count c settled);

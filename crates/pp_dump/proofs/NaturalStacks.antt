@@ -64,20 +64,20 @@ module _ (column : ℕ) where
       keys))
 
   -- of samples as a report sees them
-  seen_natural : (p : Profile) (f : Finders) (config : Config) → config.divide_by ≡ 1 → AllByRecursion Natural (left_stacks p f config)
+  seen_natural : (p : Profile) (f : Finders) (config : Config) → config.presentation.divide_by ≡ 1 → AllByRecursion Natural (left_stacks p f config.filtering)
       → AreNatural (seen_samples p f config (Some column) p.sample)
   seen_natural p f config undivided all =
       subst AreNatural (sym (seen_left p f config column undivided p.sample))
-      (all_mapped (λ (s : Seen Written). IsNatural s.value) (seen_text config.grain config.showcolumns config.noinlines column) (left_stacks p f config) all)
+      (all_mapped (λ (s : Seen Written). IsNatural s.value) (seen_text config.grouping.grain config.grouping.showcolumns config.grouping.noinlines column) (left_stacks p f config.filtering) all)
 
   module _ (p : Profile) (f : Finders) (config : Config) (valid : NoRuleFails p) (within : column < length p.sample_type)
       (least : All (λ s. All (λ v. pos 0 ≤ℤ v) s.value) p.sample) where
     -- of the samples that the filters leave
-    pub cut_natural : AllByRecursion Natural (cut_samples p f config)
+    pub cut_natural : AllByRecursion Natural (cut_samples p f config.filtering)
     cut_natural =
-        all_some Natural (λ s. option_map (cut_sample p f s) (filtered_stack p f config s)) p.sample
+        all_some Natural (λ s. option_map (cut_sample p f s) (filtered_stack p f config.filtering s)) p.sample
         (recursion_from_All _ p.sample (λ k d below item is.
-        one (get_or p.sample k d) (filtered_stack p f config (get_or p.sample k d)) (eqb-true _ _ (passes _ p.sample valid.values k d below)) (least k d below) item is))
+        one (get_or p.sample k d) (filtered_stack p f config.filtering (get_or p.sample k d)) (eqb-true _ _ (passes _ p.sample valid.values k d below)) (least k d below) item is))
       where
         one : (s : Sample) (o : Option (List Frame)) → length s.value ≡ length p.sample_type → All (λ v. pos 0 ≤ℤ v) s.value → (item : SampleText × List ℤ)
             → option_map (cut_sample p f s) o ≡ Some item → Natural item
@@ -86,18 +86,18 @@ module _ (column : ℕ) where
             subst Natural (same_Some (cut_sample p f s stack) item is) (natural (get_or s.value column (pos 0)) (values column (pos 0) (omega (arith, within, fits))))
 
     -- What a saved profile counts by values that are at least 0.
-    pub keeps_keys : IsSettled (saved_contents p f config) → left_stacks p f config ≡ map with_stack (cut_samples p f config) → KeepsSums p f config (saved p f config)
-        → ((d : Config) → d.tagfocus ≡ [] → d.tagignore ≡ [] → left_stacks (saved p f config) no_finders d ≡ whole_stacks (saved p f config))
-        → (d : Config) → SeesAlike config d → SameKeys p f config (saved p f config) d column
+    pub keeps_keys : IsSettled (saved_contents p f config.filtering) → left_stacks p f config.filtering ≡ map with_stack (cut_samples p f config.filtering) → KeepsSums p f config (saved p f config.filtering)
+        → ((d : Config) → d.filtering.tagfocus ≡ [] → d.filtering.tagignore ≡ [] → left_stacks (saved p f config.filtering) no_finders d.filtering ≡ whole_stacks (saved p f config.filtering))
+        → (d : Config) → SeesAlike config d → SameKeys p f config (saved p f config.filtering) d column
     keeps_keys settled left sums whole d alike =
-        let q : Profile = saved p f config in
-        let items : List (SampleText × List ℤ) = cut_samples p f config in
+        let q : Profile = saved p f config.filtering in
+        let items : List (SampleText × List ℤ) = cut_samples p f config.filtering in
         let ours : AreNatural (seen_samples p f config (Some column) p.sample) =
         seen_natural p f config alike.divide_by (subst (AllByRecursion Natural) (sym left) (all_mapped Natural with_stack items cut_natural)) in
         let theirs : AreNatural (seen_samples q no_finders d (Some column) q.sample) =
         seen_natural q no_finders d alike.undivided
-        (subst (AllByRecursion Natural) (sym (whole d alike.tagfocus alike.tagignore ∙ whole_back (saved_contents p f config) settled))
-        (all_mapped Natural with_stack (saved_contents p f config).samples (summed_natural (length p.sample_type) items within (wide p f config valid) cut_natural))) in
+        (subst (AllByRecursion Natural) (sym (whole d alike.tagfocus alike.tagignore ∙ whole_back (saved_contents p f config.filtering) settled))
+        (all_mapped Natural with_stack (saved_contents p f config.filtering).samples (summed_natural (length p.sample_type) items within (wide p f config.filtering valid) cut_natural))) in
         record {
           some = λ test.
               any_by_sum test _ theirs ∙ ap (λ (v : ℤ). not (int_eq v (pos 0))) (sums d alike test column within) ∙ sym (any_by_sum test _ ours);

@@ -5,7 +5,7 @@ use Rattle.std.specs.Prelude.{Option, Some, None, option_map, int_div}
 use Rattle.std.specs.List.{filter_map, cons_option}
 use Rattle.std.proofs.lemmas.Simd.{map-map}
 use Rattle.pp_model.specs.declared.config.Config.{Config}
-use Rattle.pp_model.specs.declared.config.Grain.{Grain}
+use Rattle.pp_model.specs.declared.grouping.Grain.{Grain}
 use Rattle.pp_model.specs.declared.frame.Frame.{Frame}
 use Rattle.pp_model.specs.declared.profile.Sample.{Sample}
 use Rattle.pp_model.specs.declared.profile.Profile.{Profile}
@@ -41,16 +41,16 @@ module _ (grain : Grain) (showcolumns noinlines : Bool) where
     sum_seen test [] = refl
     sum_seen test (x ∷ xs) = ap (λ sum. value_passing (λ s. test (keys_of_text s)) column x +ℤ sum) (sum_seen test xs)
 
-module _ (p : Profile) (f : Finders) (config : Config) (column : ℕ) (undivided : config.divide_by ≡ 1) where
+module _ (p : Profile) (f : Finders) (config : Config) (column : ℕ) (undivided : config.presentation.divide_by ≡ 1) where
   abbrev as_seen : StackText × List ℤ → Seen Written
-  as_seen = seen_text config.grain config.showcolumns config.noinlines column
+  as_seen = seen_text config.grouping.grain config.grouping.showcolumns config.grouping.noinlines column
 
-  keys_are : (stack : List Frame) → keys_of_stack p config stack
-      ≡ map (key_texts config.grain config.showcolumns) (counted_places config.noinlines (map (λ (place : PlaceText). place.frames) (map (left_place p) (by_place stack))))
+  keys_are : (stack : List Frame) → keys_of_stack p config.grouping stack
+      ≡ map (key_texts config.grouping.grain config.grouping.showcolumns) (counted_places config.grouping.noinlines (map (λ (place : PlaceText). place.frames) (map (left_place p) (by_place stack))))
   keys_are stack =
-      sym (map-map (key_texts config.grain config.showcolumns) (written p) (counted_frames config.noinlines stack))
-      ∙ ap (map (key_texts config.grain config.showcolumns)) (counted_stack p config.noinlines stack)
-      ∙ ap (λ frames. map (key_texts config.grain config.showcolumns) (counted_places config.noinlines frames)) (sym (map-map (λ (place : PlaceText). place.frames) (left_place p) (by_place stack)))
+      sym (map-map (key_texts config.grouping.grain config.grouping.showcolumns) (written p) (counted_frames config.grouping.noinlines stack))
+      ∙ ap (map (key_texts config.grouping.grain config.grouping.showcolumns)) (counted_stack p config.grouping.noinlines stack)
+      ∙ ap (λ frames. map (key_texts config.grouping.grain config.grouping.showcolumns) (counted_places config.grouping.noinlines frames)) (sym (map-map (λ (place : PlaceText). place.frames) (left_place p) (by_place stack)))
 
   one_seen : (s : Sample) (o : Option (List Frame)) → option_map (seen_with p config (Some column) s) o ≡ option_map as_seen (option_map (left_stack p f s) o)
   one_seen s None = refl
@@ -64,24 +64,24 @@ module _ (p : Profile) (f : Finders) (config : Config) (column : ℕ) (undivided
   one_more (Some x) rest = refl
 
   -- the samples that the filters leave, as the report sees them
-  pub seen_left : (xs : List Sample) → filter_map (seen p f config (Some column)) xs ≡ map as_seen (filter_map (λ s. option_map (left_stack p f s) (filtered_stack p f config s)) xs)
+  pub seen_left : (xs : List Sample) → filter_map (seen p f config (Some column)) xs ≡ map as_seen (filter_map (λ s. option_map (left_stack p f s) (filtered_stack p f config.filtering s)) xs)
   seen_left [] = refl
   seen_left (s ∷ xs) =
-      (λ i. cons_option (one_seen s (filtered_stack p f config s) i) (seen_left xs i))
-      ∙ one_more (option_map (left_stack p f s) (filtered_stack p f config s)) _
+      (λ i. cons_option (one_seen s (filtered_stack p f config.filtering s) i) (seen_left xs i))
+      ∙ one_more (option_map (left_stack p f s) (filtered_stack p f config.filtering s)) _
 
   -- The sum over the samples that are seen follows from the stacks that are left.
   pub sum_left : (test : List Written → Bool) → sum_where test (seen_samples p f config (Some column) p.sample)
-      ≡ sum_passing (λ s. test (keys_of_text config.grain config.showcolumns config.noinlines s)) column (left_stacks p f config)
+      ≡ sum_passing (λ s. test (keys_of_text config.grouping.grain config.grouping.showcolumns config.grouping.noinlines s)) column (left_stacks p f config.filtering)
   sum_left test =
       ap (sum_where test) (seen_left p.sample)
-      ∙ sum_seen config.grain config.showcolumns config.noinlines column test (left_stacks p f config)
+      ∙ sum_seen config.grouping.grain config.grouping.showcolumns config.grouping.noinlines column test (left_stacks p f config.filtering)
 
 -- A profile that keeps the stacks keeps the sums, where without filters its stacks are left whole.
-pub keeps_sums : (p : Profile) (f : Finders) (config : Config) (q : Profile) → KeepsStacks p f config q
-    → ((d : Config) → d.tagfocus ≡ [] → d.tagignore ≡ [] → left_stacks q no_finders d ≡ whole_stacks q) → KeepsSums p f config q
+pub keeps_sums : (p : Profile) (f : Finders) (config : Config) (q : Profile) → KeepsStacks p f config.filtering q
+    → ((d : Config) → d.filtering.tagfocus ≡ [] → d.filtering.tagignore ≡ [] → left_stacks q no_finders d.filtering ≡ whole_stacks q) → KeepsSums p f config q
 keeps_sums p f config q keeps whole d alike test column within =
     sum_left q no_finders d column alike.undivided test
     ∙ (λ i. sum_passing (λ s. test (keys_of_text (alike.grain i) (alike.showcolumns i) (alike.noinlines i) s)) column (whole d alike.tagfocus alike.tagignore i))
-    ∙ keeps.sums (λ s. test (keys_of_text config.grain config.showcolumns config.noinlines s)) column within
+    ∙ keeps.sums (λ s. test (keys_of_text config.grouping.grain config.grouping.showcolumns config.grouping.noinlines s)) column within
     ∙ sym (sum_left p f config column alike.divide_by test)

@@ -4,11 +4,11 @@ use Rattle.std.specs.Prelude.{Option, Some, None, option_map, unwrap_or, IfSome,
 use Rattle.std.specs.List.{AllByRecursion, filter_map, cons_option}
 use Rattle.std.specs.Option.{option_map_or}
 use Rattle.pp_base.proofs.Lists.{all_by}
-use Rattle.pp_model.specs.declared.config.Config.{Config}
 use Rattle.pp_model.specs.declared.frame.Frame.{Frame}
 use Rattle.pp_model.specs.declared.profile.Location.{Location}
 use Rattle.pp_model.specs.declared.profile.Sample.{Sample}
 use Rattle.pp_model.specs.declared.profile.Profile.{Profile}
+use Rattle.pp_model.specs.declared.filtering.Filtering.{Filtering}
 use Rattle.pp_model.specs.Conditions.{no_location, location_at, RefersTo}
 use Rattle.pp_model.specs.Finders.{Finders}
 use Rattle.pp_model.specs.Lookup.{text_at, text_of}
@@ -99,7 +99,7 @@ module _ (p : Profile) (empty : text_at p 0 ≡ []) (starts : AllByRecursion (λ
       ∙ ap (λ (address : ℕ). place_with own address lines l.folded) (sym (plus_back l.address (start_of own) (cut_small group)))
       ∙ ap (λ (m : Option MappingText). place_with m (plus (less l.address (start_of own)) (start_of m)) lines l.folded) (sym (mappings_stay p starts again l.mapping_id))
 
-  module _ (f : Finders) (config : Config) (numbered : AreNumbered (location_ids p)) where
+  module _ (f : Finders) (filtering : Filtering) (numbered : AreNumbered (location_ids p)) where
     -- one sample, by what the filters leave of it
     one_left : (s : Sample) (o : Option (List Frame)) → IfSome o (Coheres p) → option_map (left_stack p f s) o ≡ option_map with_stack (option_map (cut_sample p f s) o)
     one_left s None is = refl
@@ -107,8 +107,8 @@ module _ (p : Profile) (empty : text_at p 0 ≡ []) (starts : AllByRecursion (λ
         ap (λ (places : List PlaceText). Some (record { places = places; labels = map (label_text (text_of p)) (shown_labels p f s.label) }, s.value))
         (sym (map_each place_of (cut_text p) (left_place p) (by_place stack) (all_by (IsGroup p) _ (λ group is. sym (place_left group is)) (by_place stack) (are_groups p stack is))))
 
-    filtered_coheres : (s : Sample) → RefersTo p s → IfSome (filtered_stack p f config s) (Coheres p)
-    filtered_coheres s refers = by (passes_tags p f config s)
+    filtered_coheres : (s : Sample) → RefersTo p s → IfSome (filtered_stack p f filtering s) (Coheres p)
+    filtered_coheres s refers = by (passes_tags p f filtering s)
       where
         by : (b : Bool) → IfSome (if b then frames_of_sample p f s else None) (Coheres p)
         by true = left_coheres p f s numbered refers
@@ -120,9 +120,9 @@ module _ (p : Profile) (empty : text_at p 0 ≡ []) (starts : AllByRecursion (λ
 
     -- The samples that the filters leave of these.
     pub left_are : (xs : List Sample) → AllByRecursion (RefersTo p) xs
-        → filter_map (λ s. option_map (left_stack p f s) (filtered_stack p f config s)) xs
-        ≡ map with_stack (filter_map (λ s. option_map (cut_sample p f s) (filtered_stack p f config s)) xs)
+        → filter_map (λ s. option_map (left_stack p f s) (filtered_stack p f filtering s)) xs
+        ≡ map with_stack (filter_map (λ s. option_map (cut_sample p f s) (filtered_stack p f filtering s)) xs)
     left_are [] all = refl
     left_are (s ∷ xs) all =
-        (λ i. cons_option (one_left s (filtered_stack p f config s) (filtered_coheres s all.0) i) (left_are xs all.1 i))
-        ∙ one_more (option_map (cut_sample p f s) (filtered_stack p f config s)) _
+        (λ i. cons_option (one_left s (filtered_stack p f filtering s) (filtered_coheres s all.0) i) (left_are xs all.1 i))
+        ∙ one_more (option_map (cut_sample p f s) (filtered_stack p f filtering s)) _

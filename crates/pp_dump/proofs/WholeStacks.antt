@@ -7,13 +7,13 @@ use Rattle.std.proofs.lemmas.List.Elements.{All-nil, All-cons, All-tail, recursi
 use Rattle.std.proofs.lemmas.List.FromFn.{length-range_with_len, get_or-range_with_len, get_or-map-range_with_len}
 use Rattle.std.proofs.lemmas.Option.{slice_get-get_or}
 use Rattle.pp_base.specs.Front.{IsFront}
-use Rattle.pp_model.specs.declared.config.Config.{Config}
 use Rattle.pp_model.specs.declared.frame.Frame.{Frame}
 use Rattle.pp_model.specs.declared.profile.Label.{Label}
 use Rattle.pp_model.specs.declared.profile.Line.{Line}
 use Rattle.pp_model.specs.declared.profile.Location.{Location}
 use Rattle.pp_model.specs.declared.profile.Sample.{Sample}
 use Rattle.pp_model.specs.declared.profile.Profile.{Profile}
+use Rattle.pp_model.specs.declared.filtering.Filtering.{Filtering}
 use Rattle.pp_model.specs.Conditions.{no_location, location_at, RefersTo}
 use Rattle.pp_model.specs.Lookup.{text_of, location_with}
 use Rattle.pp_model.specs.Frames.{row_frame, rows, frames_from, stack_of}
@@ -150,22 +150,22 @@ module _ (p : Profile) where
               ∙ ap (map without_id) (sym (groups_located 0 s.location_id));
         }
 
-    module _ (config : Config) (tagfocus : config.tagfocus ≡ []) (tagignore : config.tagignore ≡ []) where
+    module _ (filtering : Filtering) (tagfocus : filtering.tagfocus ≡ []) (tagignore : filtering.tagignore ≡ []) where
       -- what is left of a sample is its stack
-      pub none_dropped : (s : Sample) → filtered_stack p no_finders config s ≡ Some (stack_of p s)
+      pub none_dropped : (s : Sample) → filtered_stack p no_finders filtering s ≡ Some (stack_of p s)
       none_dropped s =
           (λ i. if is_tag_kept p (filter_in_force (tagfocus i)) (filter_in_force (tagignore i)) no_finders s then filtered (written p) no_finders (stack_of p s) else None)
           ∙ none_cut p (stack_of p s)
 
-      one_whole : (s : Sample) → RefersTo p s → option_map (left_stack p no_finders s) (filtered_stack p no_finders config s) ≡ Some (whole_stack p s)
+      one_whole : (s : Sample) → RefersTo p s → option_map (left_stack p no_finders s) (filtered_stack p no_finders filtering s) ≡ Some (whole_stack p s)
       one_whole s refers =
           ap (option_map (left_stack p no_finders s)) (none_dropped s)
           ∙ (λ i. Some (record { places = places_whole 0 s.location_id refers i; labels = map (label_text (text_of p)) (all_shown p s.label i) }, s.value))
 
-      all_whole : (xs : List Sample) → AllByRecursion (RefersTo p) xs → filter_map (λ s. option_map (left_stack p no_finders s) (filtered_stack p no_finders config s)) xs ≡ map (whole_stack p) xs
+      all_whole : (xs : List Sample) → AllByRecursion (RefersTo p) xs → filter_map (λ s. option_map (left_stack p no_finders s) (filtered_stack p no_finders filtering s)) xs ≡ map (whole_stack p) xs
       all_whole [] all = refl
       all_whole (s ∷ xs) all = (λ i. cons_option (one_whole s all.0 i) (all_whole xs all.1 i))
 
       -- The stacks of all samples.
-      pub whole_left : NoRuleFails p → left_stacks p no_finders config ≡ whole_stacks p
+      pub whole_left : NoRuleFails p → left_stacks p no_finders filtering ≡ whole_stacks p
       whole_left valid = all_whole p.sample (recursion_from_All (RefersTo p) p.sample (λ k d within. refers_from_valid p (get_or p.sample k d) valid (sample_at p k d within)))

@@ -1,11 +1,11 @@
 -- What a saved profile keeps of the stacks that the filters of a report leave.
 use Rattle.std.specs.Prelude.{◌≡◌, ◌≢◌, ℕ, ◌<◌, ℤ, Bool, true, List, map, length, Option, option_map, unwrap_or, All, AllPairs, Contains}
 use Rattle.std.specs.List.{filter_map}
-use Rattle.pp_model.specs.declared.config.Config.{Config}
 use Rattle.pp_model.specs.declared.frame.Frame.{Frame}
 use Rattle.pp_model.specs.declared.profile.Location.{Location}
 use Rattle.pp_model.specs.declared.profile.Sample.{Sample}
 use Rattle.pp_model.specs.declared.profile.Profile.{Profile}
+use Rattle.pp_model.specs.declared.filtering.Filtering.{Filtering}
 use Rattle.pp_model.specs.Conditions.{no_location}
 use Rattle.pp_model.specs.Finders.{Finders}
 use Rattle.pp_model.specs.Lookup.{location_with, text_of}
@@ -75,9 +75,9 @@ abbrev pub whole_stacks : Profile → List (StackText × List ℤ)
 whole_stacks p = map (whole_stack p) p.sample
 
 -- the samples that the filters leave, as they leave them
-abbrev pub left_stacks : Profile → Finders → Config → List (StackText × List ℤ)
-left_stacks p f config =
-    filter_map (λ s. option_map (left_stack p f s) (filtered_stack p f config s)) p.sample
+abbrev pub left_stacks : Profile → Finders → Filtering → List (StackText × List ℤ)
+left_stacks p f filtering =
+    filter_map (λ s. option_map (left_stack p f s) (filtered_stack p f filtering s)) p.sample
 
 -- the samples without their values
 abbrev pub without_values : List (StackText × List ℤ) → List StackText
@@ -86,10 +86,13 @@ without_values samples = map (λ s. s.0) samples
 -- The samples of the saved profile are those that the filters leave, where equal ones became one and those of 0 went.
 -- Each is one of them, no two are equal, and each has a value that isn't 0. The sum of each column is what it was over
 -- the samples that pass a test, whatever the test asks of stack and labels.
-pub record KeepsStacks (p : Profile) (f : Finders) (config : Config) (q : Profile) : Type 0 where
+pub record KeepsStacks (p : Profile) (f : Finders) (filtering : Filtering) (q : Profile)
+    : Type 0 where
   pub each
-      : All (Contains (without_values (left_stacks p f config))) (without_values (whole_stacks q))
+      : All (Contains (without_values (left_stacks p f filtering)))
+      (without_values (whole_stacks q))
   pub apart : AllPairs (λ a b. a ≢ b) (without_values (whole_stacks q))
   pub counted : All (λ s. counts s ≡ true) (whole_stacks q)
   pub sums : (test : StackText → Bool) → (column : ℕ) → column < length p.sample_type
-      → sum_passing test column (whole_stacks q) ≡ sum_passing test column (left_stacks p f config)
+      → sum_passing test column (whole_stacks q)
+      ≡ sum_passing test column (left_stacks p f filtering)

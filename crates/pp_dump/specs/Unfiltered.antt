@@ -13,13 +13,13 @@ use Rattle.pp_restack.specs.Stacks.{patternless}
 
 -- The second configuration makes the same keys of the same frames, and has no tag filters. Neither divides values.
 pub record SeesAlike (config d : Config) : Type 0 where
-  pub grain : d.grain ≡ config.grain
-  pub showcolumns : d.showcolumns ≡ config.showcolumns
-  pub noinlines : d.noinlines ≡ config.noinlines
-  pub divide_by : config.divide_by ≡ 1
-  pub undivided : d.divide_by ≡ 1
-  pub tagfocus : d.tagfocus ≡ []
-  pub tagignore : d.tagignore ≡ []
+  pub grain : d.grouping.grain ≡ config.grouping.grain
+  pub showcolumns : d.grouping.showcolumns ≡ config.grouping.showcolumns
+  pub noinlines : d.grouping.noinlines ≡ config.grouping.noinlines
+  pub divide_by : config.presentation.divide_by ≡ 1
+  pub undivided : d.presentation.divide_by ≡ 1
+  pub tagfocus : d.filtering.tagfocus ≡ []
+  pub tagignore : d.filtering.tagignore ≡ []
 
 -- Without filters, the sum of a column of q over the samples whose keys pass a test is what it is of p with them. The
 -- test may ask anything of a sample's keys, so this gives the sums of each key, each leaf and each pair.

@@ -2,6 +2,7 @@
 ghost use Rattle.std.specs.Prelude.{◌≡◌, ◌<◌, ◌^◌, [], length, IfOk};
 ghost use Rattle.std.specs.List.{AllByRecursion};
 ghost use Rattle.pp_model.specs.declared.config.Config.{Config};
+ghost use Rattle.pp_model.specs.declared.filtering.Filtering.{Filtering};
 ghost use Rattle.pp_model.specs.Conditions.{HasVerdicts};
 ghost use Rattle.pp_model.specs.Finders.{Finders};
 ghost use Rattle.pp_model.specs.Rules.{NoRuleFails};
@@ -49,19 +50,20 @@ pub fn saved_profile<R: Threads + Sync>(
     requires verdicts { HasVerdicts l.now.profile v.now }
     requires countable { IsCountable l.now.profile }
     requires kept { AreRisingBetween 0 (length l.now.profile.sample) c.now.kept }
-    ensures saved { (f : Finders) → (config : Config) → HoldsFilters l.now v.now config f →
-        c.now.kept ≡ filtered_from l.now.profile f config 0 l.now.profile.sample →
-        IfOk result (λ q. q ≡ saved l.now.profile f config) }
-    ensures stacks { (f : Finders) → (config : Config) → HoldsFilters l.now v.now config f →
-        c.now.kept ≡ filtered_from l.now.profile f config 0 l.now.profile.sample →
+    ensures saved { (f : Finders) → (filtering : Filtering) → HoldsFilters l.now v.now filtering f →
+        c.now.kept ≡ filtered_from l.now.profile f filtering 0 l.now.profile.sample →
+        IfOk result (λ q. q ≡ saved l.now.profile f filtering) }
+    ensures stacks { (f : Finders) → (filtering : Filtering) →
+        HoldsFilters l.now v.now filtering f →
+        c.now.kept ≡ filtered_from l.now.profile f filtering 0 l.now.profile.sample →
         merged l.now.profile [] ≡ l.now.profile →
-        IfOk result (KeepsStacks l.now.profile f config) }
-    ensures sums { (f : Finders) → (config : Config) → HoldsFilters l.now v.now config f →
-        c.now.kept ≡ filtered_from l.now.profile f config 0 l.now.profile.sample →
+        IfOk result (KeepsStacks l.now.profile f filtering) }
+    ensures sums { (f : Finders) → (config : Config) → HoldsFilters l.now v.now config.filtering f →
+        c.now.kept ≡ filtered_from l.now.profile f config.filtering 0 l.now.profile.sample →
         merged l.now.profile [] ≡ l.now.profile →
         IfOk result (KeepsSums l.now.profile f config) }
-    ensures keys { (f : Finders) → (config : Config) → HoldsFilters l.now v.now config f →
-        c.now.kept ≡ filtered_from l.now.profile f config 0 l.now.profile.sample →
+    ensures keys { (f : Finders) → (config : Config) → HoldsFilters l.now v.now config.filtering f →
+        c.now.kept ≡ filtered_from l.now.profile f config.filtering 0 l.now.profile.sample →
         merged l.now.profile [] ≡ l.now.profile →
         IfOk result (KeepsKeys l.now.profile f config) }
     ensures header { IfOk result (KeepsHeader l.now.profile) }

@@ -22,7 +22,7 @@ use Rattle.pp_share.proofs.Deciding.{place_gets}
 use Rattle.pp_share.proofs.DistinctLemmas.{place_below}
 use Rattle.pp_tags.specs.Labels.{has_text}
 use Rattle.pp_build.specs.Said.{said_samples}
-use Rattle.pp_edit.specs.Labels.{is_keyed_by, has_label, has_number, label_in, relabelled_sample, said_with, texts_of_label, with_label, with_texts_of}
+use Rattle.pp_edit.specs.Labels.{is_keyed_by, has_label, has_number, label_in, relabelled_sample, said_with, texts_of_label, with_label_set, with_texts_of}
 use Rattle.pp_edit.proofs.TextLemmas.{apart_after, front_after, laws}
 use Rattle.pp_edit.proofs.StayingLemmas.{begins_still}
 use Rattle.pp_edit.proofs.RelabelledLemmas.{said_labels, relabelled_said, relabelled_valid, relabelled_countable, relabelled_compact}
@@ -57,18 +57,18 @@ module _ (p : Profile) (l : LabelText) where
       let at = (λ (x : List ℕ) (is : IsSeen bytes_eq texts x). place_gets bytes_eq bytes_eq-Decides texts x [] is) in
       λ i. record { key = at l.key seen.0 i; text = at l.text seen.1.0 i; num = l.num; unit = at l.unit seen.1.1.0 i }
 
-  pub with_said : NoRuleFails p → said_samples (with_label p l) ≡ map (said_with l) (said_samples p)
+  pub with_said : NoRuleFails p → said_samples (with_label_set p l) ≡ map (said_with l) (said_samples p)
   with_said valid =
       relabelled_said p valid texts (front_after p.text (texts_of_label l)) l.key (label_in texts l ∷ [])
       ∙ ap (λ (own : LabelText). map (said_labels l.key (own ∷ [])) (said_samples p)) own_said
 
-  pub with_valid : NoRuleFails p → NoRuleFails (with_label p l)
+  pub with_valid : NoRuleFails p → NoRuleFails (with_label_set p l)
   with_valid valid = relabelled_valid p valid texts (front_after p.text (texts_of_label l)) l.key (label_in texts l ∷ []) own_texts
 
-  pub with_countable : NoRuleFails p → IsCountable p → IsCountable (with_label p l)
+  pub with_countable : NoRuleFails p → IsCountable p → IsCountable (with_label_set p l)
   with_countable valid = relabelled_countable p valid texts (front_after p.text (texts_of_label l)) l.key (label_in texts l ∷ [])
 
-  pub with_compact : NoRuleFails p → IsCompact p → IsCompact (with_label p l)
+  pub with_compact : NoRuleFails p → IsCompact p → IsCompact (with_label_set p l)
   with_compact valid compact = relabelled_compact p valid texts (front_after p.text (texts_of_label l)) l.key (label_in texts l ∷ []) compact (apart_after p.text (texts_of_label l) compact.texts)
 
   -- there is an empty first text
@@ -76,7 +76,7 @@ module _ (p : Profile) (l : LabelText) where
   texts_begin valid = begins_still p valid texts (front_after p.text (texts_of_label l))
 
   -- a test that the label passes finds it in each sample
-  each_has : (test : Label → Bool) → test (label_in texts l) ≡ true → All (λ s. list_any test s.label ≡ true) (with_label p l).sample
+  each_has : (test : Label → Bool) → test (label_in texts l) ≡ true → All (λ s. list_any test s.label ≡ true) (with_label_set p l).sample
   each_has test own =
       All-map (λ s. list_any test s.label ≡ true) (relabelled_sample (is_keyed_by (with_texts_of p l) l.key) (label_in texts l ∷ [])) p.sample
       (λ k d within. list_any-append test _ (label_in texts l ∷ []) ∙ or_right _ _ (ap (λ b. b || false) own))
@@ -86,7 +86,7 @@ module _ (p : Profile) (l : LabelText) where
   own_key = (bytes_eq-Decides _ _).1 (sym (ap (λ (own : LabelText). own.key) own_said))
 
   -- Each sample has the text label,
-  pub with_has : NoRuleFails p → l.text ≢ [] → All (λ s. has_label (with_label p l) l.key l.text s ≡ true) (with_label p l).sample
+  pub with_has : NoRuleFails p → l.text ≢ [] → All (λ s. has_label (with_label_set p l) l.key l.text s ≡ true) (with_label_set p l).sample
   with_has valid some =
       each_has (λ label. has_text label && (is_keyed_by (with_texts_of p l) l.key label && bytes_eq l.text (text_of (with_texts_of p l) label.text)))
       (and_from _ _ (fails _ (λ zeroth. some (sym (ap (λ (own : LabelText). own.text) own_said)
@@ -94,7 +94,7 @@ module _ (p : Profile) (l : LabelText) where
       (and_from _ _ own_key ((bytes_eq-Decides _ _).1 (sym (ap (λ (own : LabelText). own.text) own_said)))))
 
   -- or the number label.
-  pub with_has_number : NoRuleFails p → l.text ≡ [] → All (λ s. has_number (with_label p l) l.key l.num l.unit s ≡ true) (with_label p l).sample
+  pub with_has_number : NoRuleFails p → l.text ≡ [] → All (λ s. has_number (with_label_set p l) l.key l.num l.unit s ≡ true) (with_label_set p l).sample
   with_has_number valid none =
       each_has (λ label. not (has_text label) && (is_keyed_by (with_texts_of p l) l.key label && (int_eq l.num label.num && bytes_eq l.unit (text_of (with_texts_of p l) label.num_unit))))
       (and_from _ _ (ap (λ place. not (not (int_eq (pos place) (pos 0)))) (ap (place_of bytes_eq texts) none ∙ first_place texts (texts_begin valid)))

@@ -65,8 +65,8 @@ label_in texts l = record {
 }
 
 -- the profile whose samples have the label, in the place of all labels of its key
-abbrev pub with_label : Profile → LabelText → Profile
-with_label p l =
+abbrev pub with_label_set : Profile → LabelText → Profile
+with_label_set p l =
     relabelled (with_texts_of p l) l.key (label_in (with_texts_of p l).text l ∷ [])
 
 -- a label of a text

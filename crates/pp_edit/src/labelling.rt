@@ -7,7 +7,7 @@ ghost use Rattle.pp_model.specs.Rules.{IsCompact};
 ghost use Rattle.pp_model.specs.Sizes.{IsCountable};
 ghost use Rattle.pp_build.specs.Said.{said_samples};
 ghost use Rattle.pp_edit.specs.Keys.{names_key};
-ghost use Rattle.pp_edit.specs.Labels.{has_label, has_number, label_in, number_label, relabelled, relabelled_sample, said_with, said_without, text_label, with_label, without_label};
+ghost use Rattle.pp_edit.specs.Labels.{has_label, has_number, label_in, number_label, relabelled, relabelled_sample, said_with, said_without, text_label, with_label_set, without_label};
 
 use crate::key::{LabelKey, key_in};
 use crate::texts::index_of;
@@ -33,7 +33,7 @@ pub fn remove_label(alloc: Global, p: Valid, key: &[u8]) -> Result<Valid, Memory
 /// is gone.
 pub fn set_label(alloc: Global, p: Valid, key: &[u8], text: &[u8]) -> Result<Valid, Memory>
     requires { text.now ≢ [] }
-    ensures with { IfOk result (λ q. q ≡ with_label p (text_label key.now text.now)) }
+    ensures with { IfOk result (λ q. q ≡ with_label_set p (text_label key.now text.now)) }
     ensures said { IfOk result (λ q. said_samples q
         ≡ map (said_with (text_label key.now text.now)) (said_samples p)) }
     ensures has { IfOk result (λ q. All (λ s. has_label q key.now text.now s ≡ true) q.sample) }
@@ -53,7 +53,7 @@ pub fn set_number_label(
     num: i64,
     unit: &[u8],
 ) -> Result<Valid, Memory>
-    ensures with { IfOk result (λ q. q ≡ with_label p (number_label key.now num unit.now)) }
+    ensures with { IfOk result (λ q. q ≡ with_label_set p (number_label key.now num unit.now)) }
     ensures said { IfOk result (λ q. said_samples q
         ≡ map (said_with (number_label key.now num unit.now)) (said_samples p)) }
     ensures has { IfOk result (λ q. All (λ s. has_number q key.now num unit.now s ≡ true) q.sample) }
@@ -72,8 +72,8 @@ fn set(
     num: i64,
     unit: &[u8],
 ) -> Result<Valid, Memory>
-    ensures with { IfOk result (λ q. q
-        ≡ with_label p (record { key = key.now; text = text.now; num = num; unit = unit.now })) }
+    ensures with { IfOk result (λ q. q ≡ with_label_set p
+        (record { key = key.now; text = text.now; num = num; unit = unit.now })) }
     ensures said { IfOk result (λ q. said_samples q
         ≡ map (said_with (record { key = key.now; text = text.now; num = num; unit = unit.now }))
         (said_samples p)) }

@@ -91,7 +91,7 @@ fn report_under<R: std::thread::Threads + Sync>(
     requires countable { IsCountable l.now.profile }
     requires standard { config.now ≡ defaults }
 {
-    let column = pp_count::column_of(l, config)?;
+    let column = pp_count::column_of(l, &config.presentation)?;
     let verdicts = pp_edit::no_verdicts(alloc);
     let counted = pp_count::count(
         rt,

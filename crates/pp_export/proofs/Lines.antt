@@ -53,6 +53,6 @@ keys_joined p names keys i old all new end past all_is end_is new_is =
 
 -- what is written of the paths is the report
 pub folded_is : (l : Loaded) (v : Verdicts) (config : Config) (column : Option ℕ) (f : Finders) (names : List Key) (paths : List PathSum)
-    → ArePathsOf l v config column names paths → HoldsFilters l v config f
+    → ArePathsOf l v config column names paths → HoldsFilters l v config.filtering f
     → flat_map path_line (map (path_written l.profile names) paths) ≡ folded_text l.profile f config column
 folded_is l v config column f names paths are holds = ap (flat_map path_line) (are.are f holds)

@@ -19,7 +19,7 @@ use Rattle.pp_export.specs.Laws.{LimitsCut}
 use Rattle.pp_export.specs.Table.{exact_heading, row_line, table_rows, exact_table}
 
 pub table_is : (l : Loaded) (v : Verdicts) (config : Config) (column : Option ℕ) (limit : ℕ) (f : Finders) (c : Counted) (t : Ranked) (unit : List ℕ)
-    → IsCountedOf l v config column c → IsWholeRanking l v config column limit c t → HoldsFilters l v config f
+    → IsCountedOf l v config column c → IsWholeRanking l v config column limit c t → HoldsFilters l v config.filtering f
     → exact_heading unit ++ table_rows (map (row_at l.profile c.sums) t.order) ≡ exact_table l.profile f config column limit unit
 table_is l v config column limit f c t unit counted ranked holds =
     ap (λ rows. exact_heading unit ++ table_rows rows)

@@ -5,25 +5,25 @@ use Rattle.pp_model.specs.FrameTexts.{Written}
 use Rattle.pp_grain.specs.declared.key.Key.{Key}
 use Rattle.pp_grain.specs.Naming.{name_text}
 use Rattle.pp_count.specs.Table.{written_key}
-use Rattle.pp_export.specs.declared.path_names.Place.{Place}
+use Rattle.pp_export.specs.declared.path_names.NamePlace.{NamePlace}
 use Rattle.pp_export.specs.declared.path_names.PathNames.{PathNames}
 use Rattle.pp_export.specs.Escaped.{semicolon, escaped_name}
 
 -- no name stands there
-abbrev pub no_name_place : Place
+abbrev pub no_name_place : NamePlace
 no_name_place = record { start = 0; len = 0 }
 
 -- the bytes at the place
-abbrev pub at_place : List ℕ → Place → List ℕ
+abbrev pub at_place : List ℕ → NamePlace → List ℕ
 at_place text place = take place.len (drop place.start text)
 
 -- These bytes stand at the place.
-pub record StandsAt (text : List ℕ) (place : Place) (bytes : List ℕ) : Type 0 where
+pub record NameStandsAt (text : List ℕ) (place : NamePlace) (bytes : List ℕ) : Type 0 where
   pub within : place.start + place.len ≤ length text
   pub are : at_place text place ≡ bytes
 
 -- where the name of the number stands
-abbrev pub name_place : PathNames → ℕ → Place
+abbrev pub name_place : PathNames → ℕ → NamePlace
 name_place path_names number = slice_index_or path_names.places.items number no_name_place
 
 -- a key's name in a path
@@ -41,10 +41,10 @@ name_and_separator name = name ++ semicolon ∷ []
 -- What is made are the names of the numbers.
 pub record ArePathNames (name : ℕ → List ℕ) (path_names : PathNames) : Type 0 where
   pub made : (number : ℕ) → 0 < (name_place path_names number).len
-      → StandsAt path_names.text.items (name_place path_names number) (name_and_separator (name number))
+      → NameStandsAt path_names.text.items (name_place path_names number) (name_and_separator (name number))
 
 -- The name of the number stands at the place.
-pub record GivesName (name : ℕ → List ℕ) (number : ℕ) (path_names : PathNames) (place : Place) : Type 0
+pub record GivesName (name : ℕ → List ℕ) (number : ℕ) (path_names : PathNames) (place : NamePlace) : Type 0
   where
     pub names : ArePathNames name path_names
-    pub own : StandsAt path_names.text.items place (name_and_separator (name number))
+    pub own : NameStandsAt path_names.text.items place (name_and_separator (name number))

@@ -26,7 +26,8 @@ use std::alloc::Global;
 pub fn write_folded(alloc: Global, l: &Loaded, t: &PathSums, out: &mut Text) -> Result<(), Memory>
     requires { All (HasKeysOf l.now.profile t.now.names.now) t.now.paths.items }
     ensures ok { (v : Verdicts) (config : Config) (column : Option ℕ) (f : Finders) →
-        ArePathsOf l.now v config column t.now.names.now t.now.paths.items → HoldsFilters l.now v config f →
+        ArePathsOf l.now v config column t.now.names.now t.now.paths.items →
+        HoldsFilters l.now v config.filtering f →
         OnOk result (out.new ≡ out.old ++ folded_text l.now.profile f config column) }
     ensures err { OnErr result (out.new ≡ out.old) }
 {

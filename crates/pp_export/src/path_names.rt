@@ -14,7 +14,7 @@ use std::alloc::Global;
 
 /// Where a name stands in the text of many.
 #[derive(Clone, Copy, Debug)]
-pub struct Place {
+pub struct NamePlace {
     /// How many bytes stand before it.
     pub start: usize,
     /// How many bytes it has. 0 where there is no name.
@@ -27,7 +27,7 @@ pub struct PathNames {
     /// The names that are made, each with a `;` behind it.
     text: Vec<u8>,
     /// For each key number, where its name stands.
-    places: Vec<Place>,
+    places: Vec<NamePlace>,
     /// Room for a name before its bytes are written over.
     scratch: Text,
 }
@@ -64,7 +64,7 @@ impl PathNames {
     }
 
     // The place of the name of the key with the number.
-    fn place_of(&mut self, l: &Loaded, names: &Names, number: u32) -> Result<Place, Memory>
+    fn place_of(&mut self, l: &Loaded, names: &Names, number: u32) -> Result<NamePlace, Memory>
         requires key { IsKeyOf l.now.profile (key_numbered names.now number) }
         requires names { ArePathNames (numbered_name l.now.profile names.now) self.old }
         ensures { IfOk result (λ place. GivesName (numbered_name l.now.profile names.now) number
@@ -78,7 +78,7 @@ impl PathNames {
     }
 
     // Makes the name of the key with the number, and gives its place.
-    fn make(&mut self, l: &Loaded, names: &Names, number: u32) -> Result<Place, Memory>
+    fn make(&mut self, l: &Loaded, names: &Names, number: u32) -> Result<NamePlace, Memory>
         requires key { IsKeyOf l.now.profile (key_numbered names.now number) }
         requires names { ArePathNames (numbered_name l.now.profile names.now) self.old }
         ensures { IfOk result (λ place. GivesName (numbered_name l.now.profile names.now) number
@@ -90,7 +90,7 @@ impl PathNames {
     }
 
     // Puts the name that was written to the number, and gives its place.
-    fn add(&mut self, number: u32) -> Result<Place, Memory>
+    fn add(&mut self, number: u32) -> Result<NamePlace, Memory>
         ensures { (name : ℕ → Seq ℕ) → ArePathNames name self.old →
             escaped_name self.old.scratch ≡ name number →
             IfOk result (λ place. GivesName name number self.new place) }
@@ -101,7 +101,7 @@ impl PathNames {
     }
 
     // Where the name of the number stands.
-    fn place(&self, number: u32) -> Place
+    fn place(&self, number: u32) -> NamePlace
         ensures { result ≡ name_place self.now number }
     {
         match self.places.get(number as usize) {
@@ -111,10 +111,10 @@ impl PathNames {
     }
 }
 
-const NO_NAME: Place = Place { start: 0, len: 0 };
+const NO_NAME: NamePlace = NamePlace { start: 0, len: 0 };
 
 // The bytes at the place.
-fn part(text: &[u8], place: Place) -> &[u8]
+fn part(text: &[u8], place: NamePlace) -> &[u8]
     ensures { result.now ≡ at_place text.now place }
 {
     let rest = &text[place.start.min(text.len())..];
@@ -122,7 +122,7 @@ fn part(text: &[u8], place: Place) -> &[u8]
 }
 
 // Adds the name as it stands in a path, and a `;`, and gives its place.
-fn put_path_name(name: &[u8], text: &mut Vec<u8>) -> Result<Place, Memory>
+fn put_path_name(name: &[u8], text: &mut Vec<u8>) -> Result<NamePlace, Memory>
     ensures text { IfOk result (λ _.
         text.new.items ≡ text.old.items ++ name_and_separator (escaped_name name.now)) }
     ensures start { IfOk result (λ place. place.start ≡ length text.old.items) }
@@ -132,14 +132,14 @@ fn put_path_name(name: &[u8], text: &mut Vec<u8>) -> Result<Place, Memory>
     let start = text.len();
     put_frame_name(name, text)?;
     text.push(b';')?;
-    Ok(Place {
+    Ok(NamePlace {
         start,
         len: name.len() + 1,
     })
 }
 
 // Puts the place to the number.
-fn put_place(number: u32, place: Place, places: &mut Vec<Place>) -> Result<(), Memory>
+fn put_place(number: u32, place: NamePlace, places: &mut Vec<NamePlace>) -> Result<(), Memory>
     ensures own { IfOk result (λ _. slice_index_or places.new.items number no_name_place ≡ place) }
     ensures others { IfOk result (λ _. (other : ℕ) → other ≢ number →
         slice_index_or places.new.items other no_name_place
@@ -151,7 +151,7 @@ fn put_place(number: u32, place: Place, places: &mut Vec<Place>) -> Result<(), M
 }
 
 // Goes on with no places up to the number.
-fn make_room(number: u32, places: &mut Vec<Place>) -> Result<(), Memory>
+fn make_room(number: u32, places: &mut Vec<NamePlace>) -> Result<(), Memory>
     ensures room { IfOk result (λ _. number < length places.new.items) }
     ensures same { IfOk result (λ _. (other : ℕ) →
         slice_index_or places.new.items other no_name_place

@@ -32,7 +32,8 @@ pub fn write_table(
     requires { CanShow l.now.profile c.now.sums t.now.order }
     ensures ok { (v : Verdicts) (config : Config) (column : Option ℕ) (limit : ℕ) (f : Finders) →
         IsCountedOf l.now v config column c.now →
-        IsWholeRanking l.now v config column limit c.now t.now → HoldsFilters l.now v config f →
+        IsWholeRanking l.now v config column limit c.now t.now →
+        HoldsFilters l.now v config.filtering f →
         OnOk result (out.new
         ≡ out.old ++ exact_table l.now.profile f config column limit unit.now) }
     ensures err { OnErr result (out.new ≡ out.old) }

@@ -5,6 +5,7 @@ use Rattle.pp_model.specs.declared.config.Config.{Config}
 use Rattle.pp_model.specs.declared.loaded.Loaded.{Loaded}
 use Rattle.pp_model.specs.declared.profile.Profile.{Profile}
 use Rattle.pp_model.specs.declared.verdicts.Verdicts.{Verdicts}
+use Rattle.pp_model.specs.declared.filtering.Filtering.{Filtering}
 use Rattle.pp_model.specs.Rules.{IsCompact}
 use Rattle.pp_model.specs.Sizes.{IsCountable}
 use Rattle.pp_model.proofs.LoadedLemmas.{same_loaded}
@@ -17,9 +18,9 @@ use Rattle.pp_count.specs.Seeing.{HoldsFilters}
 use Rattle.pp_filter.specs.Filtered.{own_finders, filtered_profile, SavesFiltered}
 
 -- The verdicts are what the finders find.
-pub filter_holds : (finds : Finds) (l : Loaded) (config : Config) (v : Verdicts) → AreVerdictsOf finds config None l v → IsCompact l.profile
-    → HoldsFilters l v config (own_finders finds l config)
-filter_holds finds l config v are compact = record {
+pub filter_holds : (finds : Finds) (l : Loaded) (filtering : Filtering) (v : Verdicts) → AreVerdictsOf finds filtering None l v → IsCompact l.profile
+    → HoldsFilters l v filtering (own_finders finds l filtering)
+filter_holds finds l filtering v are compact = record {
   found = are.holds (option_map (finder_by l.profile) l.drop) (option_map (finder_by l.profile) l.keep)
       (same_judged l.profile l.drop compact l.drop_fits) (same_judged l.profile l.keep compact l.keep_fits);
   tagfocus = are.tagfocus;
@@ -27,9 +28,9 @@ filter_holds finds l config v are compact = record {
 }
 
 -- The samples can be counted by them.
-pub can_save : (finds : Finds) (l : Loaded) (config : Config) (v : Verdicts) → AreVerdictsOf finds config None l v → IsCountable l.profile
-    → CanCount l.profile v config None
-can_save finds l config v are countable = record {
+pub can_save : (finds : Finds) (l : Loaded) (filtering : Filtering) (v : Verdicts) → AreVerdictsOf finds filtering None l v → IsCountable l.profile
+    → CanCount l.profile v filtering None
+can_save finds l filtering v are countable = record {
   countable = countable;
   column = tt;
   verdicts = are.fits;

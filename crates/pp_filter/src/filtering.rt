@@ -12,7 +12,7 @@ ghost use Rattle.pp_count.specs.Seeing.{HoldsFilters};
 ghost use Rattle.pp_dump.specs.Saved.{saved};
 
 use crate::FilterRefusal;
-use crate::judging::{load, verdicts};
+use crate::judging::{ask_option_patterns, ask_profile_patterns};
 use crate::refusal::Refused;
 use pp_base::{Matcher, Memory, OpenGate};
 use pp_count::count;
@@ -97,8 +97,8 @@ fn filter<R: Threads + Sync, D: Desk>(
         (settled result) }
     ensures saved { IfOk result (SavesFiltered D.finds profile config.now) }
 {
-    let l = load(alloc, profile, desk)?;
-    let framed = framed_for(alloc, HashKeys::fixed(), &l, config)?;
+    let l = ask_profile_patterns(alloc, profile, desk)?;
+    let framed = framed_for(alloc, HashKeys::fixed(), &l, &config.presentation)?;
     filter_loaded(rt, alloc, basis(&framed, &l), config, desk)
 }
 
@@ -112,13 +112,14 @@ fn filter_loaded<R: Threads + Sync, D: Desk>(
     desk: &mut D,
 ) -> Result<Compact, Halt<Refused>>
     requires { IsCountable l.now.profile }
-    ensures went { Went (D.world desk.old) (D.world desk.new) (filter_loaded D.finds l.now config.now)
+    ensures went { Went (D.world desk.old) (D.world desk.new)
+        (filter_loaded D.finds l.now config.now.filtering)
         (settled result) }
-    ensures saved { IfOk result (λ q. q ≡ saved_of D.finds l.now config.now) }
+    ensures saved { IfOk result (λ q. q ≡ saved_of D.finds l.now config.now.filtering) }
 {
     // A profile's texts are distinct, so that verdicts on them tell what is found.
     let _profile = l.profile.get();
-    let v = verdicts(alloc, l, config, desk)?;
+    let v = ask_option_patterns(alloc, l, &config.filtering, desk)?;
     let saved = save(rt, alloc, l, &v, config)?;
     Ok(saved)
 }
@@ -131,15 +132,15 @@ fn save<R: Threads + Sync>(
     v: &Verdicts,
     config: &Config,
 ) -> Result<Compact, Memory>
-    requires { CanCount l.now.profile v.now config.now None }
-    ensures { (f : Finders) → HoldsFilters l.now v.now config.now f →
-        IfOk result (λ q. q ≡ saved l.now.profile f config.now) }
+    requires { CanCount l.now.profile v.now config.now.filtering None }
+    ensures { (f : Finders) → HoldsFilters l.now v.now config.now.filtering f →
+        IfOk result (λ q. q ≡ saved l.now.profile f config.now.filtering) }
 {
     let counted = count(rt, alloc, HashKeys::fixed(), l, v, config, None, &OpenGate)?;
     let with = Resources {
         rt,
         alloc,
-        workers: config.workers,
+        workers: config.environment.workers,
         keys: HashKeys::fixed(),
     };
     saved_profile(&with, l, v, &counted)

@@ -2,21 +2,27 @@
 ghost use Rattle.std.specs.Prelude.{◌≡◌, IfOk, None, Ok};
 ghost use Rattle.pp_desk.specs.Asking.{settled};
 ghost use Rattle.pp_desk.specs.Went.{Went};
-ghost use Rattle.pp_filter.specs.Asked.{load, loaded_or, verdicts, verdicts_or};
+ghost use Rattle.pp_filter.specs.Asked.{ask_profile_patterns, loaded_or_refused, ask_option_patterns, verdicts_or};
 ghost use Rattle.pp_pattern.specs.Load.{load_verdicts};
 ghost use Rattle.pp_pattern.specs.Report.{AreVerdictsOf};
 
 use crate::refusal::Refused;
 use pp_base::List;
 use pp_desk::{Desk, Halt};
-use pp_model::{Compact, Config, Loaded, Verdicts};
+use pp_model::{Compact, Filtering, Loaded, Verdicts};
 use pp_pattern::{FramesRefused, judge, judge_load};
 use std::alloc::Global;
 
 /// The profile with what its own patterns find.
-#[tactic(auto, using(pp_desk::proofs::Going::going, crate::proofs::GivingLemmas::given), unfolding(crate::specs::Asked::load))]
-pub fn load<D: Desk>(alloc: Global, profile: Compact, desk: &mut D) -> Result<Loaded, Halt<Refused>>
-    ensures went { Went (D.world desk.old) (D.world desk.new) (load D.finds profile) (settled result) }
+#[tactic(auto, using(pp_desk::proofs::Going::going, crate::proofs::GivingLemmas::given), unfolding(crate::specs::Asked::ask_profile_patterns))]
+pub fn ask_profile_patterns<D: Desk>(
+    alloc: Global,
+    profile: Compact,
+    desk: &mut D,
+) -> Result<Loaded, Halt<Refused>>
+    ensures went { Went (D.world desk.old) (D.world desk.new)
+        (ask_profile_patterns D.finds profile)
+        (settled result) }
     ensures same { IfOk result (λ l. l.profile ≡ profile) }
     ensures found { IfOk result (λ l. (l.drop, l.keep) ≡ load_verdicts D.finds l.profile) }
 {
@@ -30,7 +36,7 @@ fn loaded<D: Desk>(
     answer: Result<(Option<List<bool>>, Option<List<bool>>), FramesRefused>,
 ) -> Result<Loaded, Halt<Refused>>
     requires { IfOk answer (λ v. v ≡ load_verdicts D.finds profile) }
-    ensures is { settled result ≡ Ok (loaded_or D.finds profile answer) }
+    ensures is { settled result ≡ Ok (loaded_or_refused D.finds profile answer) }
     ensures same { IfOk result (λ l. l.profile ≡ profile) }
     ensures found { IfOk result (λ l. (l.drop, l.keep) ≡ load_verdicts D.finds l.profile) }
 {
@@ -45,18 +51,19 @@ fn loaded<D: Desk>(
 }
 
 /// What the patterns of the configuration find.
-#[tactic(auto, using(pp_desk::proofs::Going::going, crate::proofs::GivingLemmas::given), unfolding(crate::specs::Asked::verdicts))]
-pub fn verdicts<D: Desk>(
+#[tactic(auto, using(pp_desk::proofs::Going::going, crate::proofs::GivingLemmas::given), unfolding(crate::specs::Asked::ask_option_patterns))]
+pub fn ask_option_patterns<D: Desk>(
     alloc: Global,
     l: &Loaded,
-    config: &Config,
+    filtering: &Filtering,
     desk: &mut D,
 ) -> Result<Verdicts, Halt<Refused>>
-    ensures went { Went (D.world desk.old) (D.world desk.new) (verdicts D.finds l.now config.now)
+    ensures went { Went (D.world desk.old) (D.world desk.new)
+        (ask_option_patterns D.finds l.now filtering.now)
         (settled result) }
-    ensures found { IfOk result (AreVerdictsOf D.finds config.now None l.now) }
+    ensures found { IfOk result (AreVerdictsOf D.finds filtering.now None l.now) }
 {
-    match judge(alloc, desk, config, None, l)? {
+    match judge(alloc, desk, filtering, None, l)? {
         Ok(verdicts) => Ok(verdicts),
         Err(refused) => Err(Halt::Refused(Refused::OfOption(refused))),
     }

@@ -1,6 +1,6 @@
 //! Which frames count, and the key of a frame.
 ghost use Rattle.std.specs.Prelude.{◌≡◌, ◌<◌, [], length};
-ghost use Rattle.pp_model.specs.declared.config.Grain.TheVariants.{Lines};
+ghost use Rattle.pp_model.specs.declared.grouping.Grain.TheVariants.{Lines};
 ghost use Rattle.pp_model.specs.Conditions.{IsFrameOf};
 ghost use Rattle.pp_model.specs.Lookup.{text_at};
 ghost use Rattle.pp_model.specs.FrameTexts.{written};

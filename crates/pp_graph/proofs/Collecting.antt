@@ -6,13 +6,13 @@ use Rattle.std.proofs.lemmas.List.Sums.{length-filter, count_by-le-length}
 use Rattle.std.proofs.lemmas.List.FromFn.{length-range_with_len}
 use Rattle.std.proofs.lemmas.List.{map-append, append-nil, length-append, length_push}
 use Rattle.std.proofs.lemmas.List.Elements.{filter-append, All-push}
-use Rattle.pp_model.specs.declared.config.Sort.{Sort}
+use Rattle.pp_model.specs.declared.presentation.Sort.{Sort}
 use Rattle.pp_model.specs.declared.profile.Profile.{Profile}
 use Rattle.pp_grain.specs.declared.key.Key.{Key}
 use Rattle.pp_grain.specs.Keys.{key_written}
 use Rattle.pp_count.specs.declared.sums.Sums.{Sums}
 use Rattle.pp_count.specs.Table.{no_key, written_key}
-use Rattle.pp_graph.specs.declared.heavy.Row.{Row}
+use Rattle.pp_graph.specs.declared.heavy.RankedRow.{RankedRow}
 use Rattle.pp_graph.specs.Ranks.{Collected, IsRankedRow, is_heavy_number, heavy_numbers, light_numbers}
 
 -- what a number of a name stands for, where its key is at hand
@@ -31,16 +31,16 @@ picked_push : (p : ℕ → Bool) (n : ℕ) (b : Bool) → p n ≡ b → filter p
 picked_push p n b e = ap (filter p) (range_more n) ∙ filter-append p (range_with_len 0 n) (n ∷ []) ∙ ap (λ c. filter p (range_with_len 0 n) ++ cond c (n ∷ []) []) e
 
 module _ (p : Profile) (sort : Sort) (sums : Sums) (total billionths : ℕ) where
-  pub collected_heavy : (n : ℕ) (rows : List Row) (row : Row) (light : ℕ) → is_heavy_number total billionths sums n ≡ true → IsRankedRow p sort sums row → row.number ≡ n
+  pub collected_heavy : (n : ℕ) (rows : List RankedRow) (row : RankedRow) (light : ℕ) → is_heavy_number total billionths sums n ≡ true → IsRankedRow p sort sums row → row.number ≡ n
       → Collected p sort sums total billionths n rows light → Collected p sort sums total billionths (n + 1) (rows ++ row ∷ []) light
   collected_heavy n rows row light heavy of number c = record {
     rows_are = All-push (IsRankedRow p sort sums) rows row c.rows_are of;
-    numbers = map-append (λ (r : Row). r.number) rows (row ∷ []) ∙ (λ i. c.numbers i ++ number i ∷ []) ∙ sym (picked_push (is_heavy_number total billionths sums) n true heavy);
+    numbers = map-append (λ (r : RankedRow). r.number) rows (row ∷ []) ∙ (λ i. c.numbers i ++ number i ∷ []) ∙ sym (picked_push (is_heavy_number total billionths sums) n true heavy);
     too_light = c.too_light ∙ sym (ap length (append-nil (light_numbers total billionths sums n)))
         ∙ ap length (sym (picked_push (λ k. not (is_heavy_number total billionths sums k)) n false (ap not heavy)));
   }
 
-  pub collected_light : (n : ℕ) (rows : List Row) (light : ℕ) → is_heavy_number total billionths sums n ≡ false
+  pub collected_light : (n : ℕ) (rows : List RankedRow) (light : ℕ) → is_heavy_number total billionths sums n ≡ false
       → Collected p sort sums total billionths n rows light → Collected p sort sums total billionths (n + 1) rows (light + 1)
   collected_light n rows light heavy c = record {
     rows_are = c.rows_are;

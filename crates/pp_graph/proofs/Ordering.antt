@@ -9,8 +9,8 @@ use Rattle.pp_base.proofs.Orders.{both_equal}
 use Rattle.pp_grain.proofs.CallerLemmas.{key_cmp_total, key_cmp_ties}
 use Rattle.pp_grain.specs.Keys.{key_cmp}
 use Rattle.pp_model.specs.FrameTexts.{Written}
-use Rattle.pp_model.specs.declared.config.Sort.{Sort}
-use Rattle.pp_model.specs.declared.config.Sort.TheVariants as sorts
+use Rattle.pp_model.specs.declared.presentation.Sort.{Sort}
+use Rattle.pp_model.specs.declared.presentation.Sort.TheVariants as sorts
 use Rattle.pp_count.specs.Sums.{Seen, cum, flat}
 use Rattle.pp_count.specs.Ranks.{by_size}
 use Rattle.pp_graph.specs.Trim.{report_order}

@@ -13,7 +13,7 @@ use Rattle.std.proofs.lemmas.List.Filters.{sum_by-filter_both}
 use Rattle.std.proofs.lemmas.List.Sorted.{sum_by-IsPermutation}
 use Rattle.std.proofs.lemmas.List.Sums.{sum_by-take-le, sum_by-cons}
 use Rattle.pp_model.specs.declared.config.Config.{Config}
-use Rattle.pp_model.specs.declared.config.Sort.{Sort}
+use Rattle.pp_model.specs.declared.presentation.Sort.{Sort}
 use Rattle.pp_model.specs.declared.loaded.Loaded.{Loaded}
 use Rattle.pp_model.specs.declared.profile.Profile.{Profile}
 use Rattle.pp_model.specs.declared.verdicts.Verdicts.{Verdicts}
@@ -25,7 +25,7 @@ use Rattle.pp_count.specs.Sums.{flat}
 use Rattle.pp_count.specs.Seeing.{HoldsFilters}
 use Rattle.pp_count.specs.Counts.{total_of}
 use Rattle.pp_count.specs.Counted.{FitSums, IsCountedOf, report_samples}
-use Rattle.pp_graph.specs.declared.heavy.Row.{Row}
+use Rattle.pp_graph.specs.declared.heavy.RankedRow.{RankedRow}
 use Rattle.pp_graph.specs.declared.ranking.Ranked.{Ranked}
 use Rattle.pp_graph.specs.Trim.{shown_keys, report_keys, candidate_keys, light_nodes, heavy_keys, light_count}
 use Rattle.pp_graph.specs.Trimmed.{int_sum, written_order, IsRankedOf}
@@ -54,13 +54,13 @@ eqb-flips a b = elim (cases_eq a b) [
   | inr apart ↦ eqb-not a b apart ∙ sym (eqb-not b a (λ is. apart (sym is)))
 ]
 
-module _ (p : Profile) (sort : Sort) (sums : Sums) (fits : FitSums sums) (total billionths : ℕ) (rows : List Row) (light limit : ℕ) (ranked : AreRanked p sort sums total billionths rows light) where
+module _ (p : Profile) (sort : Sort) (sums : Sums) (fits : FitSums sums) (total billionths : ℕ) (rows : List RankedRow) (light limit : ℕ) (ranked : AreRanked p sort sums total billionths rows light) where
   -- the numbers of the rows that are shown
   abbrev pub shown_numbers : List ℕ
-  shown_numbers = map (λ (r : Row). r.number) (shown_keys limit rows)
+  shown_numbers = map (λ (r : RankedRow). r.number) (shown_keys limit rows)
 
   pub numbers_below : All (λ n. n < length sums.names) shown_numbers
-  numbers_below = All-map (λ n. n < length sums.names) (λ (r : Row). r.number) (shown_keys limit rows)
+  numbers_below = All-map (λ n. n < length sums.names) (λ (r : RankedRow). r.number) (shown_keys limit rows)
       (All-with {P = IsRankedRow p sort sums} (λ r w. w.below) (shown_keys limit rows) (shown_all (IsRankedRow p sort sums) limit rows ranked.rows_are))
 
   all_flats : sum_by (λ n. nat_abs (sum_of_name sums.flat n)) (range_with_len 0 (length sums.names)) ≡ sum_by nat_abs sums.flat
@@ -68,10 +68,10 @@ module _ (p : Profile) (sort : Sort) (sums : Sums) (fits : FitSums sums) (total 
       sym (sum_by-map nat_abs (sum_of_name sums.flat) (range_with_len 0 (length sums.names)))
       ∙ ap (sum_by nat_abs) (sym (fill_by_all (sum_of_name sums.flat) sums.flat (length sums.names) (pos 0) fits.flats (λ k within. refl)))
 
-  shown_part : sum_by (λ n. nat_abs (sum_of_name sums.flat n)) shown_numbers ≤ sum_by (λ n. nat_abs (sum_of_name sums.flat n)) (map (λ (r : Row). r.number) rows)
-  shown_part = elim (eqb limit 0) as (λ b. sum_by (λ n. nat_abs (sum_of_name sums.flat n)) (map (λ (r : Row). r.number) (cond b rows (take limit rows))) ≤ sum_by (λ n. nat_abs (sum_of_name sums.flat n)) (map (λ (r : Row). r.number) rows)) [
+  shown_part : sum_by (λ n. nat_abs (sum_of_name sums.flat n)) shown_numbers ≤ sum_by (λ n. nat_abs (sum_of_name sums.flat n)) (map (λ (r : RankedRow). r.number) rows)
+  shown_part = elim (eqb limit 0) as (λ b. sum_by (λ n. nat_abs (sum_of_name sums.flat n)) (map (λ (r : RankedRow). r.number) (cond b rows (take limit rows))) ≤ sum_by (λ n. nat_abs (sum_of_name sums.flat n)) (map (λ (r : RankedRow). r.number) rows)) [
     | true ↦ omega arith
-    | false ↦ omega (arith, ap (sum_by (λ n. nat_abs (sum_of_name sums.flat n))) (take-map (λ (r : Row). r.number) limit rows), sum_by-take-le (λ n. nat_abs (sum_of_name sums.flat n)) (map (λ (r : Row). r.number) rows) limit)
+    | false ↦ omega (arith, ap (sum_by (λ n. nat_abs (sum_of_name sums.flat n))) (take-map (λ (r : RankedRow). r.number) limit rows), sum_by-take-le (λ n. nat_abs (sum_of_name sums.flat n)) (map (λ (r : RankedRow). r.number) rows) limit)
   ]
 
   range_apart : (n : ℕ) → AllPairs (λ a b. a ≢ b) (range_with_len 0 n)
@@ -86,9 +86,9 @@ module _ (p : Profile) (sort : Sort) (sums : Sums) (fits : FitSums sums) (total 
         get_or-range_with_len 0 n j d (omega (arith, within, length-range_with_len 0 n)),
       )
 
-  rows_apart : AllPairs (λ a b. a ≢ b) (map (λ (r : Row). r.number) rows)
-  rows_apart = AllPairs-from_IsDistinct unsigned_Decides (map (λ (r : Row). r.number) rows)
-      (IsDistinct-IsPermutation eqb eqb-flips (heavy_numbers total billionths sums (length sums.names)) (map (λ (r : Row). r.number) rows) ranked.numbers
+  rows_apart : AllPairs (λ a b. a ≢ b) (map (λ (r : RankedRow). r.number) rows)
+  rows_apart = AllPairs-from_IsDistinct unsigned_Decides (map (λ (r : RankedRow). r.number) rows)
+      (IsDistinct-IsPermutation eqb eqb-flips (heavy_numbers total billionths sums (length sums.names)) (map (λ (r : RankedRow). r.number) rows) ranked.numbers
       (IsDistinct-from_AllPairs unsigned_Decides (heavy_numbers total billionths sums (length sums.names))
       (AllPairs-filter (λ a b. a ≢ b) (is_heavy_number total billionths sums) (range_with_len 0 (length sums.names)) (range_apart (length sums.names)))))
 
@@ -99,9 +99,9 @@ module _ (p : Profile) (sort : Sort) (sums : Sums) (fits : FitSums sums) (total 
 
   -- no number stands twice
   pub numbers_apart : AllPairs (λ a b. a ≢ b) shown_numbers
-  numbers_apart = elim (eqb limit 0) as (λ b. AllPairs (λ a c. a ≢ c) (map (λ (r : Row). r.number) (cond b rows (take limit rows)))) [
+  numbers_apart = elim (eqb limit 0) as (λ b. AllPairs (λ a c. a ≢ c) (map (λ (r : RankedRow). r.number) (cond b rows (take limit rows)))) [
     | true ↦ rows_apart
-    | false ↦ subst (AllPairs (λ a c. a ≢ c)) (take-map (λ (r : Row). r.number) limit rows) (take_apart limit (map (λ (r : Row). r.number) rows) rows_apart)
+    | false ↦ subst (AllPairs (λ a c. a ≢ c)) (take-map (λ (r : RankedRow). r.number) limit rows) (take_apart limit (map (λ (r : RankedRow). r.number) rows) rows_apart)
   ]
 
   -- their flats can be added up
@@ -111,32 +111,32 @@ module _ (p : Profile) (sort : Sort) (sums : Sums) (fits : FitSums sums) (total 
     shown_part,
     all_flats,
     fits.small,
-    sum_by-IsPermutation (λ n. nat_abs (sum_of_name sums.flat n)) (heavy_numbers total billionths sums (length sums.names)) (map (λ (r : Row). r.number) rows) ranked.numbers,
+    sum_by-IsPermutation (λ n. nat_abs (sum_of_name sums.flat n)) (heavy_numbers total billionths sums (length sums.names)) (map (λ (r : RankedRow). r.number) rows) ranked.numbers,
     sum_by-filter_both (is_heavy_number total billionths sums) (λ n. not (is_heavy_number total billionths sums n)) (λ _. refl) (λ n. nat_abs (sum_of_name sums.flat n)) (range_with_len 0 (length sums.names)),
   )
 
-module _ (l : Loaded) (v : Verdicts) (config : Config) (column : Option ℕ) (limit : ℕ) (c : Counted) (rows : List Row) (light : ℕ)
-    (counted : IsCountedOf l v config column c) (ranked : AreRanked l.profile config.sort c.sums c.total config.nodefraction.billionths rows light) where
-  pub ranked_of : (t : Ranked) → t.order ≡ map (λ (r : Row). r.number) (shown_keys limit rows) → t.shown_flat ≡ int_sum (map (sum_of_name c.sums.flat) t.order)
+module _ (l : Loaded) (v : Verdicts) (config : Config) (column : Option ℕ) (limit : ℕ) (c : Counted) (rows : List RankedRow) (light : ℕ)
+    (counted : IsCountedOf l v config column c) (ranked : AreRanked l.profile config.presentation.sort c.sums c.total config.presentation.nodefraction.billionths rows light) where
+  pub ranked_of : (t : Ranked) → t.order ≡ map (λ (r : RankedRow). r.number) (shown_keys limit rows) → t.shown_flat ≡ int_sum (map (sum_of_name c.sums.flat) t.order)
       → t.dropped_nodes ≡ light → t.candidates ≡ length rows → IsRankedOf l v config column limit c t
   ranked_of t order flats light_is_t rows_are = record {
-    below = subst (All (λ n. n < length c.sums.names)) (sym order) (numbers_below l.profile config.sort c.sums counted.fits c.total config.nodefraction.billionths rows light limit ranked);
-    once = subst (AllPairs (λ a b. a ≢ b)) (sym order) (numbers_apart l.profile config.sort c.sums counted.fits c.total config.nodefraction.billionths rows light limit ranked);
-    small = subst (λ xs. sum_by (λ n. nat_abs (sum_of_name c.sums.flat n)) xs < 2 ^ 63) (sym order) (numbers_small l.profile config.sort c.sums counted.fits c.total config.nodefraction.billionths rows light limit ranked);
+    below = subst (All (λ n. n < length c.sums.names)) (sym order) (numbers_below l.profile config.presentation.sort c.sums counted.fits c.total config.presentation.nodefraction.billionths rows light limit ranked);
+    once = subst (AllPairs (λ a b. a ≢ b)) (sym order) (numbers_apart l.profile config.presentation.sort c.sums counted.fits c.total config.presentation.nodefraction.billionths rows light limit ranked);
+    small = subst (λ xs. sum_by (λ n. nat_abs (sum_of_name c.sums.flat n)) xs < 2 ^ 63) (sym order) (numbers_small l.profile config.presentation.sort c.sums counted.fits c.total config.presentation.nodefraction.billionths rows light limit ranked);
     keys = λ f h.
         ap (written_order l.profile c.sums.names) order
-        ∙ order_is l.profile (report_samples l.profile f config column) c.sums counted.fits (counted.sums_are f h) config.sort c.total config.nodefraction.billionths rows light ranked limit
-        ∙ ap (λ n. shown_keys limit (heavy_keys key_cmp config.sort n config.nodefraction.billionths (report_samples l.profile f config column))) (counted.total_is f h);
+        ∙ order_is l.profile (report_samples l.profile f config column) c.sums counted.fits (counted.sums_are f h) config.presentation.sort c.total config.presentation.nodefraction.billionths rows light ranked limit
+        ∙ ap (λ n. shown_keys limit (heavy_keys key_cmp config.presentation.sort n config.presentation.nodefraction.billionths (report_samples l.profile f config column))) (counted.total_is f h);
     shown_flat = λ f h.
         flats ∙ ap (λ xs. int_sum (map (sum_of_name c.sums.flat) xs)) order
-        ∙ ap int_sum (flats_are l.profile (report_samples l.profile f config column) c.sums counted.fits (counted.sums_are f h) config.sort c.total config.nodefraction.billionths rows light ranked limit)
-        ∙ ap (λ n. int_sum (map (flat key_cmp (report_samples l.profile f config column)) (shown_keys limit (heavy_keys key_cmp config.sort n config.nodefraction.billionths (report_samples l.profile f config column))))) (counted.total_is f h);
+        ∙ ap int_sum (flats_are l.profile (report_samples l.profile f config column) c.sums counted.fits (counted.sums_are f h) config.presentation.sort c.total config.presentation.nodefraction.billionths rows light ranked limit)
+        ∙ ap (λ n. int_sum (map (flat key_cmp (report_samples l.profile f config column)) (shown_keys limit (heavy_keys key_cmp config.presentation.sort n config.presentation.nodefraction.billionths (report_samples l.profile f config column))))) (counted.total_is f h);
     dropped_nodes = λ f h.
         light_is_t ∙ ranked.too_light
-        ∙ light_is l.profile (report_samples l.profile f config column) c.sums counted.fits (counted.sums_are f h) c.total config.nodefraction.billionths
-        ∙ ap (λ n. light_count key_cmp n config.nodefraction.billionths (report_samples l.profile f config column)) (counted.total_is f h);
+        ∙ light_is l.profile (report_samples l.profile f config column) c.sums counted.fits (counted.sums_are f h) c.total config.presentation.nodefraction.billionths
+        ∙ ap (λ n. light_count key_cmp n config.presentation.nodefraction.billionths (report_samples l.profile f config column)) (counted.total_is f h);
     candidates = λ f h.
         rows_are
-        ∙ candidates_are l.profile (report_samples l.profile f config column) c.sums counted.fits (counted.sums_are f h) config.sort c.total config.nodefraction.billionths rows light ranked
-        ∙ ap (λ n. length (heavy_keys key_cmp config.sort n config.nodefraction.billionths (report_samples l.profile f config column))) (counted.total_is f h);
+        ∙ candidates_are l.profile (report_samples l.profile f config column) c.sums counted.fits (counted.sums_are f h) config.presentation.sort c.total config.presentation.nodefraction.billionths rows light ranked
+        ∙ ap (λ n. length (heavy_keys key_cmp config.presentation.sort n config.presentation.nodefraction.billionths (report_samples l.profile f config column))) (counted.total_is f h);
   }

@@ -2,7 +2,7 @@
 use Rattle.std.proofs.Common.{◌≡◌, ℕ, true, false, pos, negsuc, List, [], ◌∷◌, refl}
 use Rattle.std.specs.Ordering.{nat_cmp}
 use Rattle.std.specs.declared.cmp.Ordering.TheVariants.{Less, Greater}
-use Rattle.pp_model.specs.declared.config.Sort.TheVariants as sorts
+use Rattle.pp_model.specs.declared.presentation.Sort.TheVariants as sorts
 use Rattle.pp_count.specs.Sums.{Seen, has}
 use Rattle.pp_count.specs.EdgeSums.{edge_occurs}
 use Rattle.pp_graph.specs.Trim.{node_limit, report_order, is_heavy_key, light_count, shown_keys, has_heavy_edge, light_edge_count}

@@ -15,8 +15,8 @@ use Rattle.std.proofs.lemmas.Map.Keys.{IsDistinct-IsPermutation}
 use Rattle.std.proofs.lemmas.Map.Made.{IsDistinct-from_AllPairs, length-from_keys}
 use Rattle.std.proofs.lemmas.Map.Views.{any-filter_same}
 use Rattle.std.proofs.lemmas.Simd.{map-map}
-use Rattle.pp_model.specs.declared.config.Sort.{Sort}
-use Rattle.pp_model.specs.declared.config.Sort.TheVariants as sorts
+use Rattle.pp_model.specs.declared.presentation.Sort.{Sort}
+use Rattle.pp_model.specs.declared.presentation.Sort.TheVariants as sorts
 use Rattle.pp_model.specs.declared.profile.Profile.{Profile}
 use Rattle.pp_model.specs.FrameTexts.{Written}
 use Rattle.pp_grain.specs.Keys.{key_cmp, key_written}
@@ -30,7 +30,7 @@ use Rattle.pp_count.specs.Ranks.{is_heavy}
 use Rattle.pp_count.proofs.Renaming.{all_keys_occur}
 use Rattle.pp_count.proofs.EachOnce.{each_once_is}
 use Rattle.pp_count.proofs.Ties.{tied, key_decides}
-use Rattle.pp_graph.specs.declared.heavy.Row.{Row}
+use Rattle.pp_graph.specs.declared.heavy.RankedRow.{RankedRow}
 use Rattle.pp_graph.specs.Trim.{is_heavy_key, report_order, heavy_keys, light_count, shown_keys}
 use Rattle.pp_graph.specs.Ranks.{row_cmp, row_key, larger_first, sum_of_name, major, minor, IsRankedRow, is_heavy_number, heavy_numbers, light_numbers, AreRanked}
 use Rattle.pp_graph.proofs.Ordering.{report_total, report_same}
@@ -134,31 +134,31 @@ module _ (p : Profile) (samples : List (Seen Written)) (sums : Sums) (fits : Fit
       (distinct_names (λ k. not (is_heavy_key key_cmp total billionths samples k))) (λ q. sym (members (λ k. not (is_heavy_key key_cmp total billionths samples k)) q))
 
   -- rows are ordered as their keys are
-  rows_order : (sort : Sort) (a b : Row) → IsRankedRow p sort sums a → IsRankedRow p sort sums b → report_order key_cmp sort samples (row_key a) (row_key b) ≡ row_cmp a b
+  rows_order : (sort : Sort) (a b : RankedRow) → IsRankedRow p sort sums a → IsRankedRow p sort sums b → report_order key_cmp sort samples (row_key a) (row_key b) ≡ row_cmp a b
   rows_order sorts.Flat a b x y =
       then_assoc (larger_first (nat_abs (flat key_cmp samples (row_key a))) (nat_abs (flat key_cmp samples (row_key b)))) (larger_first (nat_abs (cum key_cmp samples (row_key a))) (nat_abs (cum key_cmp samples (row_key b)))) (key_cmp (row_key a) (row_key b))
       ∙ (λ i. ordering_then (ordering_then (larger_first (of_flat a x i) (of_flat b y i)) (larger_first (of_cum a x i) (of_cum b y i))) (key_cmp (row_key a) (row_key b))) where
-        of_flat : (r : Row) → IsRankedRow p sorts.Flat sums r → nat_abs (flat key_cmp samples (row_key r)) ≡ r.major
+        of_flat : (r : RankedRow) → IsRankedRow p sorts.Flat sums r → nat_abs (flat key_cmp samples (row_key r)) ≡ r.major
         of_flat r w = ap (λ k. nat_abs (flat key_cmp samples k)) w.key ∙ ap nat_abs (sym (flat_at r.number w.below)) ∙ sym w.major
 
-        of_cum : (r : Row) → IsRankedRow p sorts.Flat sums r → nat_abs (cum key_cmp samples (row_key r)) ≡ r.minor
+        of_cum : (r : RankedRow) → IsRankedRow p sorts.Flat sums r → nat_abs (cum key_cmp samples (row_key r)) ≡ r.minor
         of_cum r w = ap (λ k. nat_abs (cum key_cmp samples k)) w.key ∙ ap nat_abs (sym (cum_at r.number w.below)) ∙ sym w.minor
   rows_order sorts.Cum a b x y =
       then_assoc (larger_first (nat_abs (cum key_cmp samples (row_key a))) (nat_abs (cum key_cmp samples (row_key b)))) (larger_first (nat_abs (flat key_cmp samples (row_key a))) (nat_abs (flat key_cmp samples (row_key b)))) (key_cmp (row_key a) (row_key b))
       ∙ (λ i. ordering_then (ordering_then (larger_first (of_cum a x i) (of_cum b y i)) (larger_first (of_flat a x i) (of_flat b y i))) (key_cmp (row_key a) (row_key b))) where
-        of_flat : (r : Row) → IsRankedRow p sorts.Cum sums r → nat_abs (flat key_cmp samples (row_key r)) ≡ r.minor
+        of_flat : (r : RankedRow) → IsRankedRow p sorts.Cum sums r → nat_abs (flat key_cmp samples (row_key r)) ≡ r.minor
         of_flat r w = ap (λ k. nat_abs (flat key_cmp samples k)) w.key ∙ ap nat_abs (sym (flat_at r.number w.below)) ∙ sym w.minor
 
-        of_cum : (r : Row) → IsRankedRow p sorts.Cum sums r → nat_abs (cum key_cmp samples (row_key r)) ≡ r.major
+        of_cum : (r : RankedRow) → IsRankedRow p sorts.Cum sums r → nat_abs (cum key_cmp samples (row_key r)) ≡ r.major
         of_cum r w = ap (λ k. nat_abs (cum key_cmp samples k)) w.key ∙ ap nat_abs (sym (cum_at r.number w.below)) ∙ sym w.major
 
-  module _ (sort : Sort) (total billionths : ℕ) (rows : List Row) (light : ℕ) (ranked : AreRanked p sort sums total billionths rows light) where
+  module _ (sort : Sort) (total billionths : ℕ) (rows : List RankedRow) (light : ℕ) (ranked : AreRanked p sort sums total billionths rows light) where
     get_or-map_within : {A B : Type 0} (g : A → B) (xs : List A) (j : ℕ) (d : B) (e : A) → j < length xs → get_or (map g xs) j d ≡ g (get_or xs j e)
     get_or-map_within g xs j d e h = get_or-map g xs j e d h
 
     keys_sorted : IsSorted (report_order key_cmp sort samples) (map row_key rows)
     keys_sorted = go rows ranked.sorted ranked.rows_are where
-      go : (rs : List Row) → IsSortedBy (λ a b. is_lt (row_cmp a b)) rs → All (IsRankedRow p sort sums) rs → IsSorted (report_order key_cmp sort samples) (map row_key rs)
+      go : (rs : List RankedRow) → IsSortedBy (λ a b. is_lt (row_cmp a b)) rs → All (IsRankedRow p sort sums) rs → IsSorted (report_order key_cmp sort samples) (map row_key rs)
       go [] sorted of = λ k d low high. absurd (omega (arith, high))
       go (r ∷ rs) sorted of = λ k d low high.
           let within : k + 1 < length (r ∷ rs) = omega (arith, high, length-map (r ∷ rs) row_key) in
@@ -169,14 +169,14 @@ module _ (p : Profile) (samples : List (Seen Written)) (sums : Sums) (fits : Fit
           ∙ sorted k r low within
 
     -- the keys of the rows are those of their numbers
-    keys_of_rows : (rs : List Row) → All (IsRankedRow p sort sums) rs → map row_key rs ≡ map key_at (map (λ (r : Row). r.number) rs)
-    keys_of_rows rs of = map-same row_key (λ (r : Row). key_at r.number) rs (All-with {P = IsRankedRow p sort sums} (λ r w. w.key) rs of) ∙ sym (map-map key_at (λ (r : Row). r.number) rs)
+    keys_of_rows : (rs : List RankedRow) → All (IsRankedRow p sort sums) rs → map row_key rs ≡ map key_at (map (λ (r : RankedRow). r.number) rs)
+    keys_of_rows rs of = map-same row_key (λ (r : RankedRow). key_at r.number) rs (All-with {P = IsRankedRow p sort sums} (λ r w. w.key) rs of) ∙ sym (map-map key_at (λ (r : RankedRow). r.number) rs)
 
     permuted : IsPermutation (filter (is_heavy_key key_cmp total billionths samples) names) (map row_key rows)
     permuted =
         subst (λ xs. IsPermutation xs (map row_key rows)) (heavy_names total billionths)
         (subst (λ ys. IsPermutation (map key_at (heavy_numbers total billionths sums (length sums.names))) ys) (sym (keys_of_rows rows ranked.rows_are))
-        (IsPermutation-map key_at (heavy_numbers total billionths sums (length sums.names)) (map (λ (r : Row). r.number) rows) ranked.numbers))
+        (IsPermutation-map key_at (heavy_numbers total billionths sums (length sums.names)) (map (λ (r : RankedRow). r.number) rows) ranked.numbers))
 
     -- the heavy keys in report order are those of the rows
     pub heavy_are : heavy_keys key_cmp sort total billionths samples ≡ map row_key rows
@@ -194,7 +194,7 @@ module _ (p : Profile) (samples : List (Seen Written)) (sums : Sums) (fits : Fit
     ]
 
     -- the rows that are shown are those of the keys that are
-    pub order_is : (limit : ℕ) → map key_at (map (λ (r : Row). r.number) (shown_keys limit rows)) ≡ shown_keys limit (heavy_keys key_cmp sort total billionths samples)
+    pub order_is : (limit : ℕ) → map key_at (map (λ (r : RankedRow). r.number) (shown_keys limit rows)) ≡ shown_keys limit (heavy_keys key_cmp sort total billionths samples)
     order_is limit =
         sym (keys_of_rows (shown_keys limit rows) (shown_all (IsRankedRow p sort sums) limit rows ranked.rows_are))
         ∙ sym (shown-map row_key limit rows) ∙ ap (shown_keys limit) (sym heavy_are)
@@ -203,10 +203,10 @@ module _ (p : Profile) (samples : List (Seen Written)) (sums : Sums) (fits : Fit
     candidates_are = sym (length-map rows row_key) ∙ ap length (sym heavy_are)
 
     -- their flats
-    pub flats_are : (limit : ℕ) → map (sum_of_name sums.flat) (map (λ (r : Row). r.number) (shown_keys limit rows)) ≡ map (flat key_cmp samples) (shown_keys limit (heavy_keys key_cmp sort total billionths samples))
+    pub flats_are : (limit : ℕ) → map (sum_of_name sums.flat) (map (λ (r : RankedRow). r.number) (shown_keys limit rows)) ≡ map (flat key_cmp samples) (shown_keys limit (heavy_keys key_cmp sort total billionths samples))
     flats_are limit =
-        map-map (sum_of_name sums.flat) (λ (r : Row). r.number) (shown_keys limit rows)
-        ∙ map-same (λ (r : Row). sum_of_name sums.flat r.number) (λ (r : Row). flat key_cmp samples (key_at r.number)) (shown_keys limit rows)
+        map-map (sum_of_name sums.flat) (λ (r : RankedRow). r.number) (shown_keys limit rows)
+        ∙ map-same (λ (r : RankedRow). sum_of_name sums.flat r.number) (λ (r : RankedRow). flat key_cmp samples (key_at r.number)) (shown_keys limit rows)
         (All-with {P = IsRankedRow p sort sums} (λ r w. flat_at r.number w.below) (shown_keys limit rows) (shown_all (IsRankedRow p sort sums) limit rows ranked.rows_are))
-        ∙ sym (map-map (flat key_cmp samples) (λ (r : Row). key_at r.number) (shown_keys limit rows))
-        ∙ ap (map (flat key_cmp samples)) (sym (map-map key_at (λ (r : Row). r.number) (shown_keys limit rows)) ∙ order_is limit)
+        ∙ sym (map-map (flat key_cmp samples) (λ (r : RankedRow). key_at r.number) (shown_keys limit rows))
+        ∙ ap (map (flat key_cmp samples)) (sym (map-map key_at (λ (r : RankedRow). r.number) (shown_keys limit rows)) ∙ order_is limit)

@@ -30,12 +30,12 @@ light-none total sum = le-leb (total * 0) (nat_abs sum * 1000000000) (omega arit
 module _ (l : Loaded) (v : Verdicts) (config : Config) (column : Option ℕ) (c : Counted) (none : Fraction) (is_none : none.billionths ≡ 0) where
   -- the variables, where no fraction of the total is asked of a key
   abbrev pub free : Config
-  free = record config { nodefraction = none }
+  free = record config { presentation = record config.presentation { nodefraction = none } }
 
-  there : (f : Finders) → HoldsFilters l v config f → HoldsFilters l v free f
+  there : (f : Finders) → HoldsFilters l v config.filtering f → HoldsFilters l v free.filtering f
   there f holds = record { found = holds.found; tagfocus = holds.tagfocus; tagignore = holds.tagignore }
 
-  back : (f : Finders) → HoldsFilters l v free f → HoldsFilters l v config f
+  back : (f : Finders) → HoldsFilters l v free.filtering f → HoldsFilters l v config.filtering f
   back f holds = record { found = holds.found; tagfocus = holds.tagfocus; tagignore = holds.tagignore }
 
   -- the count does not depend on the fraction
@@ -65,7 +65,7 @@ module _ (l : Loaded) (v : Verdicts) (config : Config) (column : Option ℕ) (c 
   keys_free limit f =
       let samples : List (Seen Written) = report_samples l.profile f config column in
       let total : ℕ = total_of l.profile f config column in
-      ap (λ ks. shown_keys limit (each_once (report_order key_cmp config.sort samples) ks))
+      ap (λ ks. shown_keys limit (each_once (report_order key_cmp config.presentation.sort samples) ks))
       (filter-everything (is_heavy_key key_cmp total none.billionths samples)
       (λ k. ap (λ n. is_heavy total n (cum key_cmp samples k)) is_none ∙ light-none total (cum key_cmp samples k)) (all_keys samples))
 

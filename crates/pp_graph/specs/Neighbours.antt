@@ -45,14 +45,14 @@ abbrev pub callers_of : Profile → Finders → Config → Option ℕ → ℕ �
     → List (Neighbour Written)
 callers_of p f config column limit k =
     callers_over key_cmp (is_report_key p f config column limit) (report_samples p f config column)
-    (total_of p f config column) config.edgefraction.billionths k
+    (total_of p f config column) config.presentation.edgefraction.billionths k
 
 -- The callees that it shows of a key.
 abbrev pub callees_of : Profile → Finders → Config → Option ℕ → ℕ → Written
     → List (Neighbour Written)
 callees_of p f config column limit k =
     callees_over key_cmp (is_report_key p f config column limit) (report_samples p f config column)
-    (total_of p f config column) config.edgefraction.billionths k
+    (total_of p f config column) config.presentation.edgefraction.billionths k
 
 -- All callers of a key, where nothing is trimmed.
 abbrev pub all_callers_of : Profile → Finders → Config → Option ℕ → Written

@@ -4,8 +4,8 @@ use Rattle.std.specs.List.{filter, range_with_len}
 use Rattle.std.specs.Ordering.{nat_cmp, ordering_then, is_lt}
 use Rattle.std.specs.List.Sorted.{IsPermutation, IsSortedBy}
 use Rattle.std.specs.declared.cmp.Ordering.{Ordering}
-use Rattle.pp_model.specs.declared.config.Sort.{Sort}
-use Rattle.pp_model.specs.declared.config.Sort.TheVariants as sorts
+use Rattle.pp_model.specs.declared.presentation.Sort.{Sort}
+use Rattle.pp_model.specs.declared.presentation.Sort.TheVariants as sorts
 use Rattle.pp_model.specs.declared.profile.Profile.{Profile}
 use Rattle.pp_model.specs.FrameTexts.{Written}
 use Rattle.pp_grain.specs.Keys.{key_cmp}
@@ -13,10 +13,10 @@ use Rattle.pp_grain.specs.Told.{written_texts}
 use Rattle.pp_count.specs.declared.sums.Sums.{Sums}
 use Rattle.pp_count.specs.Table.{written_key}
 use Rattle.pp_count.specs.Ranks.{is_heavy}
-use Rattle.pp_graph.specs.declared.heavy.Row.{Row}
+use Rattle.pp_graph.specs.declared.heavy.RankedRow.{RankedRow}
 
 -- what the row's key stands for
-abbrev pub row_key : Row → Written
+abbrev pub row_key : RankedRow → Written
 row_key row = written_texts row.texts
 
 -- the greater number first
@@ -24,7 +24,7 @@ abbrev pub larger_first : ℕ → ℕ → Ordering
 larger_first a b = nat_cmp b a
 
 -- report order of rows
-abbrev pub row_cmp : Row → Row → Ordering
+abbrev pub row_cmp : RankedRow → RankedRow → Ordering
 row_cmp a b =
     ordering_then (ordering_then (larger_first a.major b.major) (larger_first a.minor b.minor))
     (key_cmp (row_key a) (row_key b))
@@ -44,7 +44,7 @@ minor sorts.Flat sums n = nat_abs (sum_of_name sums.cum n)
 minor sorts.Cum sums n = nat_abs (sum_of_name sums.flat n)
 
 -- the row is that of its number
-pub record IsRankedRow (p : Profile) (sort : Sort) (sums : Sums) (row : Row) : Type 0 where
+pub record IsRankedRow (p : Profile) (sort : Sort) (sums : Sums) (row : RankedRow) : Type 0 where
   pub below : row.number < length sums.names
   pub key : row_key row ≡ written_key p sums.names row.number
   pub major : row.major ≡ major sort sums row.number
@@ -66,14 +66,14 @@ light_numbers total billionths sums n =
 
 -- The rows are those of the heavy numbers below n, in order, and `light` of them are light.
 pub record Collected (p : Profile) (sort : Sort) (sums : Sums) (total billionths n : ℕ)
-    (rows : List Row) (light : ℕ) : Type 0 where
+    (rows : List RankedRow) (light : ℕ) : Type 0 where
   pub rows_are : All (IsRankedRow p sort sums) rows
   pub numbers : map (λ row. row.number) rows ≡ heavy_numbers total billionths sums n
   pub too_light : light ≡ length (light_numbers total billionths sums n)
 
 -- The rows are those of the heavy numbers, in report order, and `light` numbers are light.
 pub record AreRanked (p : Profile) (sort : Sort) (sums : Sums) (total billionths : ℕ)
-    (rows : List Row) (light : ℕ) : Type 0 where
+    (rows : List RankedRow) (light : ℕ) : Type 0 where
   pub sorted : IsSortedBy (λ a b. is_lt (row_cmp a b)) rows
   pub rows_are : All (IsRankedRow p sort sums) rows
   pub numbers : IsPermutation (heavy_numbers total billionths sums (length sums.names))

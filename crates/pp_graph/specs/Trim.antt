@@ -5,8 +5,8 @@ use Rattle.std.specs.Ordering.{then_cmp, eq_by_cmp}
 use Rattle.std.specs.Set.{distinct_count}
 use Rattle.std.specs.declared.cmp.Ordering.{Ordering}
 use Rattle.pp_model.specs.declared.config.Config.{Config}
-use Rattle.pp_model.specs.declared.config.Sort.{Sort}
-use Rattle.pp_model.specs.declared.config.Sort.TheVariants as sorts
+use Rattle.pp_model.specs.declared.presentation.Sort.{Sort}
+use Rattle.pp_model.specs.declared.presentation.Sort.TheVariants as sorts
 use Rattle.pp_model.specs.declared.profile.Profile.{Profile}
 use Rattle.pp_model.specs.Finders.{Finders}
 use Rattle.pp_model.specs.FrameTexts.{Written}
@@ -71,7 +71,8 @@ module _ {K : Type 0} (order : K → K → Ordering) where
 -- The keys that a report may show: those that occur and are heavy, in report order.
 abbrev pub candidate_keys : Profile → Finders → Config → Option ℕ → List Written
 candidate_keys p f config column =
-    heavy_keys key_cmp config.sort (total_of p f config column) config.nodefraction.billionths
+    heavy_keys key_cmp config.presentation.sort
+    (total_of p f config column) config.presentation.nodefraction.billionths
     (report_samples p f config column)
 
 -- The keys that it shows, in report order: the first of these, where 0 is no limit.
@@ -82,7 +83,7 @@ report_keys p f config column limit = shown_keys limit (candidate_keys p f confi
 abbrev pub all_report_keys : Profile → Finders → Config → Option ℕ → List Written
 all_report_keys p f config column =
     let samples = report_samples p f config column in
-    each_once (report_order key_cmp config.sort samples) (all_keys samples)
+    each_once (report_order key_cmp config.presentation.sort samples) (all_keys samples)
 
 -- The first of them, where 0 is no limit.
 abbrev pub first_report_keys : Profile → Finders → Config → Option ℕ → ℕ → List Written
@@ -95,7 +96,7 @@ is_report_key p f config column limit k = has key_cmp k (report_keys p f config 
 -- how many keys occur and are too light to be shown
 abbrev pub light_nodes : Profile → Finders → Config → Option ℕ → ℕ
 light_nodes p f config column =
-    light_count key_cmp (total_of p f config column) config.nodefraction.billionths
+    light_count key_cmp (total_of p f config column) config.presentation.nodefraction.billionths
     (report_samples p f config column)
 
 -- how many pairs occur over the keys that are shown, and have an edge that is too light
@@ -103,4 +104,4 @@ abbrev pub light_edges : Profile → Finders → Config → Option ℕ → ℕ �
 light_edges p f config column limit =
     light_edge_count key_cmp (report_keys p f config column limit)
     (report_samples p f config column) (total_of p f config column)
-    config.edgefraction.billionths
+    config.presentation.edgefraction.billionths

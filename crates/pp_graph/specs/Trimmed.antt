@@ -39,15 +39,15 @@ pub record IsRankedOf (l : Loaded) (v : Verdicts) (config : Config) (column : Op
   pub below : All (λ n. n < length c.sums.names) t.order
   pub once : AllPairs (λ a b. a ≢ b) t.order
   pub small : sum_by (λ n. nat_abs (slice_index_or c.sums.flat n (pos 0))) t.order < 2 ^ 63
-  pub keys : (f : Finders) → HoldsFilters l v config f
+  pub keys : (f : Finders) → HoldsFilters l v config.filtering f
       → written_order l.profile c.sums.names t.order ≡ report_keys l.profile f config column limit
-  pub shown_flat : (f : Finders) → HoldsFilters l v config f
+  pub shown_flat : (f : Finders) → HoldsFilters l v config.filtering f
       → t.shown_flat
       ≡ int_sum (map (flat key_cmp (report_samples l.profile f config column))
       (report_keys l.profile f config column limit))
-  pub dropped_nodes : (f : Finders) → HoldsFilters l v config f
+  pub dropped_nodes : (f : Finders) → HoldsFilters l v config.filtering f
       → t.dropped_nodes ≡ light_nodes l.profile f config column
-  pub candidates : (f : Finders) → HoldsFilters l v config f
+  pub candidates : (f : Finders) → HoldsFilters l v config.filtering f
       → t.candidates ≡ length (candidate_keys l.profile f config column)
 
 -- The ranking is that of all keys that occur, however light: the numbers of the first of their names, in report order,
@@ -57,9 +57,9 @@ pub record IsWholeRanking (l : Loaded) (v : Verdicts) (config : Config) (column 
   pub below : All (λ n. n < length c.sums.names) t.order
   pub once : AllPairs (λ a b. a ≢ b) t.order
   pub small : sum_by (λ n. nat_abs (slice_index_or c.sums.flat n (pos 0))) t.order < 2 ^ 63
-  pub keys : (f : Finders) → HoldsFilters l v config f
+  pub keys : (f : Finders) → HoldsFilters l v config.filtering f
       → written_order l.profile c.sums.names t.order ≡ first_report_keys l.profile f config column limit
-  pub shown_flat : (f : Finders) → HoldsFilters l v config f
+  pub shown_flat : (f : Finders) → HoldsFilters l v config.filtering f
       → t.shown_flat
       ≡ int_sum (map (flat key_cmp (report_samples l.profile f config column))
       (first_report_keys l.profile f config column limit))
@@ -78,7 +78,7 @@ shown_edges p f config column limit names a b =
     let caller = written_key p names a in
     let callee = written_key p names b in
     if has_heavy_edge key_cmp kept samples (total_of p f config column)
-    config.edgefraction.billionths caller callee
+    config.presentation.edgefraction.billionths caller callee
     then record { from = a; to = b; value = edge_sum key_cmp kept samples caller callee } ∷ []
     else []
 
@@ -94,9 +94,9 @@ pub record IsTrimmedOf (l : Loaded) (v : Verdicts) (config : Config) (column : O
   pub ranked : IsRankedOf l v config column limit c t.ranked
   pub linked : AreEdgesLinked t.graph
   pub nodes : HasNodes c.sums t.graph
-  pub edges : (f : Finders) → HoldsFilters l v config f
+  pub edges : (f : Finders) → HoldsFilters l v config.filtering f
       → (a b : ℕ) → a < length c.sums.names → b < length c.sums.names
       → edges_between a b (live_edges t.graph)
       ≡ shown_edges l.profile f config column limit c.sums.names a b
-  pub dropped_edges : (f : Finders) → HoldsFilters l v config f
+  pub dropped_edges : (f : Finders) → HoldsFilters l v config.filtering f
       → t.dropped_edges ≡ light_edges l.profile f config column limit

@@ -12,7 +12,7 @@ use std::cmp::Ordering;
 
 /// A key with what it is ranked by.
 #[derive(Clone, Copy)]
-pub struct Row<'a> {
+pub struct RankedRow<'a> {
     /// The number of its name.
     pub number: u64,
     /// What the key stands for.
@@ -27,7 +27,7 @@ pub struct Row<'a> {
 #[derive(Drop)]
 pub struct Heavy<'a> {
     /// A row for each heavy key, in report order.
-    pub rows: Vec<Row<'a>>,
+    pub rows: Vec<RankedRow<'a>>,
     /// How many keys are too light.
     pub light: u64,
 }
@@ -88,7 +88,7 @@ fn is_heavy_name(sums: &Sums, number: u64, total: u64, least: Fraction) -> bool
 }
 
 // The row of the name.
-fn row_of<'a>(p: &'a Profile, sort: Sort, sums: &Sums, number: u64) -> Row<'a>
+fn row_of<'a>(p: &'a Profile, sort: Sort, sums: &Sums, number: u64) -> RankedRow<'a>
     requires keys { All (IsKeyOf p.now) sums.now.names }
     requires flats { length sums.now.flat ≡ length sums.now.names }
     requires cums { length sums.now.cum ≡ length sums.now.names }
@@ -101,13 +101,13 @@ fn row_of<'a>(p: &'a Profile, sort: Sort, sums: &Sums, number: u64) -> Row<'a>
     let key = sums.names.key(number);
     let texts = texts_of(p, &key);
     match sort {
-        Sort::Flat => Row {
+        Sort::Flat => RankedRow {
             number,
             texts,
             major: flat,
             minor: cum,
         },
-        Sort::Cum => Row {
+        Sort::Cum => RankedRow {
             number,
             texts,
             major: cum,
@@ -125,7 +125,7 @@ fn size_at(sums: &List<i64>, place: u64) -> u64
 }
 
 // Report order: the greater sum first, then the greater other sum, then the keys' texts and numbers.
-fn row_order(a: &Row, b: &Row) -> Ordering
+fn row_order(a: &RankedRow, b: &RankedRow) -> Ordering
     ensures { result ≡ row_cmp a.now b.now }
 {
     let sums = b.major.cmp(&a.major).then(b.minor.cmp(&a.minor));

@@ -9,7 +9,7 @@ ghost use Rattle.pp_graph.specs.Ranks.{sum_of_name};
 ghost use Rattle.pp_graph.specs.Trim.{shown_keys};
 ghost use Rattle.pp_graph.specs.Trimmed.{int_sum, IsRankedOf, IsWholeRanking};
 
-use crate::heavy::{Row, ranked};
+use crate::heavy::{RankedRow, ranked};
 use pp_base::{Fraction, List, Memory};
 use pp_count::Counted;
 use pp_model::{Config, Loaded, Sort};
@@ -44,7 +44,14 @@ pub fn rank(
         IsCountedOf l.now v config.now column counted.now →
         IfOk result (IsRankedOf l.now v config.now column limit counted.now) }
 {
-    rank_by(alloc, l, counted, config.sort, config.nodefraction, limit)
+    rank_by(
+        alloc,
+        l,
+        counted,
+        config.presentation.sort,
+        config.presentation.nodefraction,
+        limit,
+    )
 }
 
 /// Ranks all keys, however light, and keeps the first `limit` of them, all for 0. Report order is that of `rank`.
@@ -62,7 +69,7 @@ pub fn rank_all(
         IfOk result (IsWholeRanking l.now v config.now column limit counted.now) }
 {
     let nothing = Fraction { billionths: 0 };
-    rank_by(alloc, l, counted, config.sort, nothing, limit)
+    rank_by(alloc, l, counted, config.presentation.sort, nothing, limit)
 }
 
 // The ranking of each configuration with this order and this fraction.
@@ -76,8 +83,9 @@ fn rank_by(
 ) -> Result<Ranked, Memory>
     requires fits { FitSums counted.now.sums }
     requires keys { All (IsKeyOf l.now.profile) counted.now.sums.names }
-    ensures { (v : Verdicts) (config : Config) (column : Option ℕ) → config.sort ≡ sort →
-        config.nodefraction.billionths ≡ least.billionths →
+    ensures { (v : Verdicts) (config : Config) (column : Option ℕ) →
+        config.presentation.sort ≡ sort →
+        config.presentation.nodefraction.billionths ≡ least.billionths →
         IsCountedOf l.now v config column counted.now →
         IfOk result (IsRankedOf l.now v config column limit counted.now) }
 {
@@ -95,7 +103,7 @@ fn rank_by(
 }
 
 // As many rows as the limit says, and all of them where it is 0.
-fn first_rows<'x, 'a>(rows: &'x [Row<'a>], limit: u32) -> &'x [Row<'a>]
+fn first_rows<'x, 'a>(rows: &'x [RankedRow<'a>], limit: u32) -> &'x [RankedRow<'a>]
     ensures { result.now ≡ shown_keys limit rows.now }
 {
     if limit == 0 {
@@ -106,7 +114,7 @@ fn first_rows<'x, 'a>(rows: &'x [Row<'a>], limit: u32) -> &'x [Row<'a>]
 }
 
 // The numbers of the rows, in order.
-fn numbers_of(alloc: Global, rows: &[Row]) -> Result<List<u64>, Memory>
+fn numbers_of(alloc: Global, rows: &[RankedRow]) -> Result<List<u64>, Memory>
     ensures { IfOk result (λ order. order ≡ map (λ row. row.number) rows.now) }
 {
     let mut order = List::new(alloc);

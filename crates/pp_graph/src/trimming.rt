@@ -8,7 +8,7 @@ ghost use Rattle.pp_graph.specs.Trimmed.{IsTrimmedOf};
 use crate::graph::Graph;
 use crate::ranking::{Ranked, rank};
 use pp_base::{Fraction, Gate, List, Memory};
-use pp_count::{Edge, Survey, edges, is_heavy};
+use pp_count::{Edge, Survey, is_heavy, recount};
 use std::alloc::Global;
 use std::thread::Threads;
 
@@ -37,10 +37,15 @@ pub fn trim<R: Threads + Sync, G: Gate>(
     let (config, counted) = (survey.config, survey.counted);
     let ranked = rank(alloc, survey.l, counted, config, limit)?;
     let keep = kept(alloc, counted.sums.names.len(), ranked.order.as_slice())?;
-    let edges = edges(rt, alloc, survey, &keep, gate)?;
+    let edges = recount(rt, alloc, survey, &keep, gate)?;
     let count = edges.len() as u64;
     let mut graph = Graph::make(alloc, &counted.sums, edges)?;
-    let dropped_edges = cut_light(&mut graph, count, counted.total, config.edgefraction);
+    let dropped_edges = cut_light(
+        &mut graph,
+        count,
+        counted.total,
+        config.presentation.edgefraction,
+    );
     Ok(Trimmed {
         ranked,
         graph,

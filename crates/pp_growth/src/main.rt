@@ -37,7 +37,7 @@ fn days<R: Threads + Sync + RandomSource>(
     let mut config = Config::standard(alloc)?;
     for column in 0..new.profile().sample_type.len() {
         let column = format!(in alloc; "{column}")?;
-        config.sample_index = Text::from_slice(alloc, column.as_bytes())?;
+        config.presentation.sample_index = Text::from_slice(alloc, column.as_bytes())?;
         let before = figures(rt, alloc, &old, &config, matcher)?;
         let after = figures(rt, alloc, &new, &config, matcher)?;
         put_column(alloc, &before, &after, &mut out)?;
@@ -50,9 +50,9 @@ fn days<R: Threads + Sync + RandomSource>(
     let both = merge(rt, alloc, both, matcher)?;
 
     // What goes through the parser is saved, and shown by days.
-    config.focus = Text::from_slice(alloc, b"^json[.]")?;
+    config.filtering.focus = Text::from_slice(alloc, b"^json[.]")?;
     let saved = report(rt, alloc, &both, &Report::Proto, &config, matcher)?;
-    config.tagroot = Text::from_slice(alloc, b"day")?;
+    config.presentation.tagroot = Text::from_slice(alloc, b"day")?;
     let top = report(rt, alloc, &both, &Report::Top, &config, matcher)?;
     out.append(top)?;
     Ok((out, saved))

@@ -14,6 +14,8 @@ use Rattle.pp_model.specs.declared.profile.Sample.{Sample}
 use Rattle.pp_model.specs.declared.profile.Profile.{Profile}
 use Rattle.pp_model.specs.declared.verdicts.Slot.{Slot}
 use Rattle.pp_model.specs.declared.verdicts.Slot.TheVariants as slots
+use Rattle.pp_model.specs.declared.filtering.Filtering.{Filtering}
+use Rattle.pp_model.specs.declared.presentation.Presentation.{Presentation}
 use Rattle.pp_model.specs.Finders.{Finder, Finders}
 use Rattle.pp_model.specs.Frames.{stack_of}
 use Rattle.pp_model.specs.FrameTexts.{Written, written}
@@ -33,7 +35,7 @@ use Rattle.pp_laws.proofs.AddingUp.{all_counted}
 use Rattle.pp_account.specs.declared.portion.Portion.{Portion}
 use Rattle.pp_account.specs.Account.{AccountRow, dropping, filter_row}
 use Rattle.pp_account.specs.First.{finds_or, first_filter, slot_else, is_filter, is_in_force}
-use Rattle.pp_laws.specs.Accounts.{together, SamplesAddUp, OthersDropNone, NodesAddUp, ValuesAddUp}
+use Rattle.pp_laws.specs.Accounts.{portion_sum, SamplesAddUp, OthersDropNone, NodesAddUp, ValuesAddUp}
 use Rattle.pp_account.specs.Nodes.{keys_portion, light_keys, keys_beyond, past_limit}
 use Rattle.pp_account.specs.Portions.{portion_of, dropped_samples, is_bare, bare_samples}
 use Rattle.pp_account.proofs.Each.{never_emptied}
@@ -69,18 +71,18 @@ drops false false false false false true h = refl
 drops false false false false false false true = refl
 drops false false false false false false false = refl
 
-module _ (p : Profile) (f : Finders) (config : Config) where
-  pub one_of_seven : (s : Sample) → is_dropping (first_filter p f config s) ≡ true
+module _ (p : Profile) (f : Finders) (filtering : Filtering) where
+  pub one_of_seven : (s : Sample) → is_dropping (first_filter p f filtering s) ≡ true
   one_of_seven s =
       let stack = load_pruned (written p) f (stack_of p s) in
       let left = not_hidden (written p) f stack in
       drops (finds_or (written p) f.ignore stack false) (not (finds_or (written p) f.focus stack true)) (is_emptied stack left)
       (is_emptied left (frames_shown (written p) f left)) (not (is_some (shown_from (written p) f (frames_shown (written p) f left))))
-      (not (selects_or true p (filter_in_force config.tagfocus) f.tagfocus s)) (selects_or false p (filter_in_force config.tagignore) f.tagignore s)
+      (not (selects_or true p (filter_in_force filtering.tagfocus) f.tagfocus s)) (selects_or false p (filter_in_force filtering.tagignore) f.tagignore s)
 
 -- the values of samples
-abbrev worth : Config → Option ℕ → List Sample → ℤ
-worth config column samples = selected_all column config.divide_by samples
+abbrev worth : Presentation → Option ℕ → List Sample → ℤ
+worth presentation column samples = selected_all column presentation.divide_by samples
 
 -- one sample more ends in one place
 module _ (s : Sample) (a b c d e g h left : List Sample) where
@@ -105,16 +107,16 @@ module _ (s : Sample) (a b c d e g h left : List Sample) where
   count_step (Some slots.TagHide) is n so = absurd (false≢true is)
   count_step (Some slots.Own) is n so = absurd (false≢true is)
 
-  module _ (config : Config) (column : Option ℕ) where
+  module _ (presentation : Presentation) (column : Option ℕ) where
     abbrev values : Option Slot → ℤ
     values o =
-        worth config column (cond (is_filter slots.Ignore o) (s ∷ a) a) +ℤ (worth config column (cond (is_filter slots.Focus o) (s ∷ b) b) +ℤ (worth config column (cond (is_filter slots.Hide o) (s ∷ c) c)
-        +ℤ (worth config column (cond (is_filter slots.Show o) (s ∷ d) d) +ℤ (worth config column (cond (is_filter slots.ShowFrom o) (s ∷ e) e) +ℤ (worth config column (cond (is_filter slots.TagFocus o) (s ∷ g) g)
-        +ℤ (worth config column (cond (is_filter slots.TagIgnore o) (s ∷ h) h) +ℤ (worth config column (cond (not (is_some o)) (s ∷ left) left) +ℤ pos 0)))))))
+        worth presentation column (cond (is_filter slots.Ignore o) (s ∷ a) a) +ℤ (worth presentation column (cond (is_filter slots.Focus o) (s ∷ b) b) +ℤ (worth presentation column (cond (is_filter slots.Hide o) (s ∷ c) c)
+        +ℤ (worth presentation column (cond (is_filter slots.Show o) (s ∷ d) d) +ℤ (worth presentation column (cond (is_filter slots.ShowFrom o) (s ∷ e) e) +ℤ (worth presentation column (cond (is_filter slots.TagFocus o) (s ∷ g) g)
+        +ℤ (worth presentation column (cond (is_filter slots.TagIgnore o) (s ∷ h) h) +ℤ (worth presentation column (cond (not (is_some o)) (s ∷ left) left) +ℤ pos 0)))))))
 
     value_step : (o : Option Slot) → is_dropping o ≡ true → (z : ℤ)
-        → z ≡ worth config column a +ℤ (worth config column b +ℤ (worth config column c +ℤ (worth config column d +ℤ (worth config column e +ℤ (worth config column g +ℤ (worth config column h +ℤ (worth config column left +ℤ pos 0)))))))
-        → selected column config.divide_by s +ℤ z ≡ values o
+        → z ≡ worth presentation column a +ℤ (worth presentation column b +ℤ (worth presentation column c +ℤ (worth presentation column d +ℤ (worth presentation column e +ℤ (worth presentation column g +ℤ (worth presentation column h +ℤ (worth presentation column left +ℤ pos 0)))))))
+        → selected column presentation.divide_by s +ℤ z ≡ values o
     value_step None is z so = omega (arith, ints, so)
     value_step (Some slots.Ignore) is z so = omega (arith, ints, so)
     value_step (Some slots.Focus) is z so = omega (arith, ints, so)
@@ -130,25 +132,25 @@ module _ (s : Sample) (a b c d e g h left : List Sample) where
 
 module _ (p : Profile) (f : Finders) (config : Config) (column : Option ℕ) where
   abbrev part : Slot → List Sample → List Sample
-  part slot ss = dropped_samples p f config slot ss
+  part slot ss = dropped_samples p f config.filtering slot ss
 
   abbrev ends : List Sample → Portion
-  ends ss = together (map (λ slot. portion_of config column (part slot ss)) dropping ++ portion_of config column (filtered_samples p f config ss) ∷ [])
+  ends ss = portion_sum (map (λ slot. portion_of config.presentation column (part slot ss)) dropping ++ portion_of config.presentation column (filtered_samples p f config.filtering ss) ∷ [])
 
-  all_end : (ss : List Sample) → (length ss ≡ (ends ss).count) × (worth config column ss ≡ (ends ss).value)
+  all_end : (ss : List Sample) → (length ss ≡ (ends ss).count) × (worth config.presentation column ss ≡ (ends ss).value)
   all_end [] = (refl, refl)
   all_end (s ∷ ss) =
       let rest = all_end ss in
-      let left : List Sample = filtered_samples p f config ss in
-      let first : Option Slot = first_filter p f config s in (
+      let left : List Sample = filtered_samples p f config.filtering ss in
+      let first : Option Slot = first_filter p f config.filtering s in (
         count_step s (part slots.Ignore ss) (part slots.Focus ss) (part slots.Hide ss) (part slots.Show ss) (part slots.ShowFrom ss) (part slots.TagFocus ss) (part slots.TagIgnore ss) left
-            first (one_of_seven p f config s) (length ss) rest.0
+            first (one_of_seven p f config.filtering s) (length ss) rest.0
             ∙ ap (λ b. length (part slots.Ignore (s ∷ ss)) + (length (part slots.Focus (s ∷ ss)) + (length (part slots.Hide (s ∷ ss)) + (length (part slots.Show (s ∷ ss)) + (length (part slots.ShowFrom (s ∷ ss))
-            + (length (part slots.TagFocus (s ∷ ss)) + (length (part slots.TagIgnore (s ∷ ss)) + (length (cond b (s ∷ left) left) + 0)))))))) (sym (left_or_dropped p f config s)),
+            + (length (part slots.TagFocus (s ∷ ss)) + (length (part slots.TagIgnore (s ∷ ss)) + (length (cond b (s ∷ left) left) + 0)))))))) (sym (left_or_dropped p f config.filtering s)),
         value_step s (part slots.Ignore ss) (part slots.Focus ss) (part slots.Hide ss) (part slots.Show ss) (part slots.ShowFrom ss) (part slots.TagFocus ss) (part slots.TagIgnore ss) left
-            config column first (one_of_seven p f config s) (worth config column ss) rest.1
-            ∙ ap (λ b. worth config column (part slots.Ignore (s ∷ ss)) +ℤ (worth config column (part slots.Focus (s ∷ ss)) +ℤ (worth config column (part slots.Hide (s ∷ ss)) +ℤ (worth config column (part slots.Show (s ∷ ss))
-            +ℤ (worth config column (part slots.ShowFrom (s ∷ ss)) +ℤ (worth config column (part slots.TagFocus (s ∷ ss)) +ℤ (worth config column (part slots.TagIgnore (s ∷ ss)) +ℤ (worth config column (cond b (s ∷ left) left) +ℤ pos 0)))))))) (sym (left_or_dropped p f config s)),
+            config.presentation column first (one_of_seven p f config.filtering s) (worth config.presentation column ss) rest.1
+            ∙ ap (λ b. worth config.presentation column (part slots.Ignore (s ∷ ss)) +ℤ (worth config.presentation column (part slots.Focus (s ∷ ss)) +ℤ (worth config.presentation column (part slots.Hide (s ∷ ss)) +ℤ (worth config.presentation column (part slots.Show (s ∷ ss))
+            +ℤ (worth config.presentation column (part slots.ShowFrom (s ∷ ss)) +ℤ (worth config.presentation column (part slots.TagFocus (s ∷ ss)) +ℤ (worth config.presentation column (part slots.TagIgnore (s ∷ ss)) +ℤ (worth config.presentation column (cond b (s ∷ left) left) +ℤ pos 0)))))))) (sym (left_or_dropped p f config.filtering s)),
       )
 
 pub samples_add_up : SamplesAddUp
@@ -229,7 +231,7 @@ filter_none : {X : Type 0} (t : X → Bool) (xs : List X) → ((x : X) → t x �
 filter_none t [] none = refl
 filter_none t (x ∷ xs) none = (λ i. cond (none x i) (x ∷ filter t xs) (filter t xs)) ∙ filter_none t xs none
 
-module _ (p : Profile) (f : Finders) (config : Config) where
+module _ (p : Profile) (f : Finders) (filtering : Filtering) where
   abbrev stack_at : Sample → List Frame
   stack_at s = load_pruned (written p) f (stack_of p s)
 
@@ -252,12 +254,12 @@ module _ (p : Profile) (f : Finders) (config : Config) where
   unstarted s = not (is_some (shown_from (written p) f (frames_shown (written p) f (left_at s))))
 
   abbrev unselected : Sample → Bool
-  unselected s = not (selects_or true p (filter_in_force config.tagfocus) f.tagfocus s)
+  unselected s = not (selects_or true p (filter_in_force filtering.tagfocus) f.tagfocus s)
 
   abbrev rejected : Sample → Bool
-  rejected s = selects_or false p (filter_in_force config.tagignore) f.tagignore s
+  rejected s = selects_or false p (filter_in_force filtering.tagignore) f.tagignore s
 
-  others : (slot : Slot) → is_in_force f config slot ≡ false → (s : Sample) → is_filter slot (first_filter p f config s) ≡ false
+  others : (slot : Slot) → is_in_force f filtering slot ≡ false → (s : Sample) → is_filter slot (first_filter p f filtering s) ≡ false
   others slots.Ignore none s =
       ap (λ b. is_filter slots.Ignore (cascade b (unfocused s) (hidden s) (unshown s) (unstarted s) (unselected s) (rejected s))) (unforced f.ignore _ false none)
       ∙ not_ignore (unfocused s) (hidden s) (unshown s) (unstarted s) (unselected s) (rejected s)
@@ -274,10 +276,10 @@ module _ (p : Profile) (f : Finders) (config : Config) where
       ap (λ b. is_filter slots.ShowFrom (cascade (ignored s) (unfocused s) (hidden s) (unshown s) b (unselected s) (rejected s))) (ap (λ o. not (is_some o)) (unforced f.show_from _ (Some (frames_shown (written p) f (left_at s))) none))
       ∙ not_show_from (ignored s) (unfocused s) (hidden s) (unshown s) (unselected s) (rejected s)
   others slots.TagFocus none s =
-      ap (λ b. is_filter slots.TagFocus (cascade (ignored s) (unfocused s) (hidden s) (unshown s) (unstarted s) b (rejected s))) (ap not (unforced (filter_in_force config.tagfocus) _ true none))
+      ap (λ b. is_filter slots.TagFocus (cascade (ignored s) (unfocused s) (hidden s) (unshown s) (unstarted s) b (rejected s))) (ap not (unforced (filter_in_force filtering.tagfocus) _ true none))
       ∙ not_tagfocus (ignored s) (unfocused s) (hidden s) (unshown s) (unstarted s) (rejected s)
   others slots.TagIgnore none s =
-      ap (λ b. is_filter slots.TagIgnore (cascade (ignored s) (unfocused s) (hidden s) (unshown s) (unstarted s) (unselected s) b)) (unforced (filter_in_force config.tagignore) _ false none)
+      ap (λ b. is_filter slots.TagIgnore (cascade (ignored s) (unfocused s) (hidden s) (unshown s) (unstarted s) (unselected s) b)) (unforced (filter_in_force filtering.tagignore) _ false none)
       ∙ not_tagignore (ignored s) (unfocused s) (hidden s) (unshown s) (unstarted s) (unselected s)
   others slots.PruneFrom none s = refl
   others slots.TagShow none s = refl
@@ -285,7 +287,7 @@ module _ (p : Profile) (f : Finders) (config : Config) where
   others slots.Own none s = refl
 
 pub others_drop_none : OthersDropNone
-others_drop_none p f config slot none = filter_none (λ s. is_filter slot (first_filter p f config s)) p.sample (others p f config slot none)
+others_drop_none p f filtering slot none = filter_none (λ s. is_filter slot (first_filter p f filtering s)) p.sample (others p f filtering slot none)
 
 -- keys that pass a test, and the others
 module _ (value : Written → ℤ) (t : Written → Bool) where
@@ -324,7 +326,7 @@ pub nodes_add_up : NodesAddUp
 nodes_add_up p f config column limit =
     let samples : List (Seen Written) = report_samples p f config column in
     let value : Written → ℤ = flat key_cmp samples in
-    let heavy : Written → Bool = is_heavy_key key_cmp (total_of p f config column) config.nodefraction.billionths samples in
+    let heavy : Written → Bool = is_heavy_key key_cmp (total_of p f config column) config.presentation.nodefraction.billionths samples in
     let keys : List Written = all_report_keys p f config column in
     let shown : List Written = candidate_keys p f config column in
     let are : shown ≡ filter heavy keys = candidates_are p f config column in
@@ -346,22 +348,22 @@ module _ (p : Profile) (f : Finders) (config : Config) (column : Option ℕ) whe
   abbrev bares : List Sample → List Sample
   bares ss = bare_samples p f config column ss
 
-  worth_if : (b : Bool) (s : Sample) (ss : List Sample) → worth config column (cond b (s ∷ ss) ss) ≡ cond b (selected column config.divide_by s +ℤ worth config column ss) (worth config column ss)
+  worth_if : (b : Bool) (s : Sample) (ss : List Sample) → worth config.presentation column (cond b (s ∷ ss) ss) ≡ cond b (selected column config.presentation.divide_by s +ℤ worth config.presentation column ss) (worth config.presentation column ss)
   worth_if true s ss = refl
   worth_if false s ss = refl
 
-  left_values : (ss : List Sample) → worth config column (filtered_samples p f config ss) ≡ sum_where has_frames (seen_samples p f config column ss) +ℤ worth config column (bares ss)
+  left_values : (ss : List Sample) → worth config.presentation column (filtered_samples p f config.filtering ss) ≡ sum_where has_frames (seen_samples p f config column ss) +ℤ worth config.presentation column (bares ss)
   left_values [] = refl
   left_values (s ∷ ss) =
-      let v : ℤ = selected column config.divide_by s in
-      let left : List Sample = filtered_samples p f config ss in
-      elim (filtered_stack p f config s) as (λ (o : Option (List Frame)). worth config column (cond (is_some o) (s ∷ left) left)
+      let v : ℤ = selected column config.presentation.divide_by s in
+      let left : List Sample = filtered_samples p f config.filtering ss in
+      elim (filtered_stack p f config.filtering s) as (λ (o : Option (List Frame)). worth config.presentation column (cond (is_some o) (s ∷ left) left)
       ≡ sum_where has_frames (cons_option (option_map (seen_with p config column s) o) (seen_samples p f config column ss))
-      +ℤ worth config column (cond (option_map_or (λ x. not (int_eq x.value (pos 0)) && has_no_items x.keys) (option_map (seen_with p config column s) o) false) (s ∷ bares ss) (bares ss))) [
+      +ℤ worth config.presentation column (cond (option_map_or (λ x. not (int_eq x.value (pos 0)) && has_no_items x.keys) (option_map (seen_with p config column s) o) false) (s ∷ bares ss) (bares ss))) [
         | None ↦ left_values ss
         | Some stack ↦
             let keys : List Written = (seen_with p config column s stack).keys in
-            bare_or_not (has_no_items keys) (int_eq v (pos 0)) v (worth config column left) (worth config column (bares ss)) (sum_where has_frames (seen_samples p f config column ss))
+            bare_or_not (has_no_items keys) (int_eq v (pos 0)) v (worth config.presentation column left) (worth config.presentation column (bares ss)) (sum_where has_frames (seen_samples p f config column ss))
             ((Decides-int_eq v (pos 0)).0) (left_values ss)
             ∙ ap (λ z. (cond (has_frames keys) v (pos 0) +ℤ sum_where has_frames (seen_samples p f config column ss)) +ℤ z) (sym (worth_if (not (int_eq v (pos 0)) && has_no_items keys) s (bares ss)))
       ]
@@ -369,4 +371,4 @@ module _ (p : Profile) (f : Finders) (config : Config) (column : Option ℕ) whe
 pub values_add_up : ValuesAddUp
 values_add_up p f config column =
     left_values p f config column p.sample
-    ∙ ap (λ z. z +ℤ worth config column (bare_samples p f config column p.sample)) (sym (all_counted p f config column))
+    ∙ ap (λ z. z +ℤ worth config.presentation column (bare_samples p f config column p.sample)) (sym (all_counted p f config column))

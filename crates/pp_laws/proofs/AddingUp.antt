@@ -5,7 +5,7 @@ use Rattle.std.specs.Ordering.{eq_by_cmp}
 use Rattle.std.proofs.lemmas.Bool.{le-leb}
 use Rattle.std.proofs.lemmas.Map.Made.{IsDistinct-from_AllPairs}
 use Rattle.std.proofs.lemmas.Map.Views.{any-filter_same}
-use Rattle.pp_model.specs.declared.config.Sort.{Sort}
+use Rattle.pp_model.specs.declared.presentation.Sort.{Sort}
 use Rattle.pp_model.specs.declared.profile.Profile.{Profile}
 use Rattle.pp_model.specs.FrameTexts.{Written}
 use Rattle.pp_grain.specs.Keys.{key_cmp}
@@ -49,15 +49,15 @@ order_ties sort samples = λ i x y. same_ties (report_total samples sort) (repor
 pub rows_counted : RowsAddUp
 rows_counted p f config column none =
     let samples = report_samples p f config column in
-    let order = report_order key_cmp config.sort samples in
-    let ties : eq_by_cmp order ≡ eq_by_cmp key_cmp = order_ties config.sort samples in
-    let heavy : Written → Bool = is_heavy_key key_cmp (total_of p f config column) config.nodefraction.billionths samples in
+    let order = report_order key_cmp config.presentation.sort samples in
+    let ties : eq_by_cmp order ≡ eq_by_cmp key_cmp = order_ties config.presentation.sort samples in
+    let heavy : Written → Bool = is_heavy_key key_cmp (total_of p f config column) config.presentation.nodefraction.billionths samples in
     let keys : List Written = each_once order (filter heavy (all_keys samples)) in
     let apart : IsDistinct (eq_by_cmp key_cmp) keys = subst (λ e. IsDistinct e keys) ties (each_once_apart order (filter heavy (all_keys samples))) in
     let known : (k : Written) → occurs key_cmp samples k ≡ true → list_any (eq_by_cmp key_cmp k) keys ≡ true = λ k is.
-    (λ i. list_any (sym ties i k) keys) ∙ each_once_members (report_total samples config.sort) (filter heavy (all_keys samples)) k
+    (λ i. list_any (sym ties i k) keys) ∙ each_once_members (report_total samples config.presentation.sort) (filter heavy (all_keys samples)) k
     ∙ (λ i. list_any (ties i k) (filter heavy (all_keys samples)))
-    ∙ any-filter_same (eq_by_cmp key_cmp k) heavy true (λ q e. heavy_always (total_of p f config column) config.nodefraction.billionths (cum key_cmp samples q) none) (all_keys samples)
+    ∙ any-filter_same (eq_by_cmp key_cmp k) heavy true (λ q e. heavy_always (total_of p f config column) config.presentation.nodefraction.billionths (cum key_cmp samples q) none) (all_keys samples)
     ∙ all_keys_occur key_cmp samples k ∙ is in
     flats_add_up key_cmp_total samples keys apart known
     ∙ sum_where-weighed has_frames (seen_samples p f config column p.sample)
@@ -65,12 +65,12 @@ rows_counted p f config column none =
 pub all_counted : AllKeysAddUp
 all_counted p f config column =
     let samples = report_samples p f config column in
-    let order = report_order key_cmp config.sort samples in
-    let ties : eq_by_cmp order ≡ eq_by_cmp key_cmp = order_ties config.sort samples in
+    let order = report_order key_cmp config.presentation.sort samples in
+    let ties : eq_by_cmp order ≡ eq_by_cmp key_cmp = order_ties config.presentation.sort samples in
     let keys : List Written = all_report_keys p f config column in
     let apart : IsDistinct (eq_by_cmp key_cmp) keys = subst (λ e. IsDistinct e keys) ties (each_once_apart order (all_keys samples)) in
     let known : (k : Written) → occurs key_cmp samples k ≡ true → list_any (eq_by_cmp key_cmp k) keys ≡ true = λ k is.
-    (λ i. list_any (sym ties i k) keys) ∙ each_once_members (report_total samples config.sort) (all_keys samples) k
+    (λ i. list_any (sym ties i k) keys) ∙ each_once_members (report_total samples config.presentation.sort) (all_keys samples) k
     ∙ (λ i. list_any (ties i k) (all_keys samples))
     ∙ all_keys_occur key_cmp samples k ∙ is in
     flats_add_up key_cmp_total samples keys apart known

@@ -105,7 +105,7 @@ module _ (b : Profile) (valid : NoRuleFails b) where
       ∙ (λ i. tell_base (map (label_text (text_of (labelled b valid))) s.label) || ((bytes_eq (key_told i) (codes "pprof::base") && bytes_eq (text_told i) (codes "true")) || false))
       ∙ or-true (tell_base (map (label_text (text_of (labelled b valid))) s.label))
 
-module _ (f : Finders) (config : Config) (column : ℕ) (divisor : config.divide_by ≡ 1) (tagfocus : config.tagfocus ≡ []) (tagignore : config.tagignore ≡ [])
+module _ (f : Finders) (config : Config) (column : ℕ) (divisor : config.presentation.divide_by ≡ 1) (tagfocus : config.filtering.tagfocus ≡ []) (tagignore : config.filtering.tagignore ≡ [])
     (p base : Profile) (valid : NoRuleFails base) (can : AddUp p (base ∷ []) config column) (unlabelled : has_base p ≡ false) (test : List Written → Bool) where
   abbrev q : Profile
   q = labelled base valid

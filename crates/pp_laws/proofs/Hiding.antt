@@ -21,11 +21,11 @@ pub trimming_hides : TrimmingHides
 trimming_hides none p f config column limit zero =
     let samples : List (Seen Written) = report_samples p f config column in
     let total : ℕ = total_of p f config column in
-    let order = report_order key_cmp config.sort samples in
-    let heavy : Written → Bool = is_heavy_key key_cmp total config.nodefraction.billionths samples in
+    let order = report_order key_cmp config.presentation.sort samples in
+    let heavy : Written → Bool = is_heavy_key key_cmp total config.presentation.nodefraction.billionths samples in
     record {
       rows = ap (shown_keys limit)
-          (each_once-filter (report_total samples config.sort) (report_same samples config.sort) heavy (all_keys samples)
+          (each_once-filter (report_total samples config.presentation.sort) (report_same samples config.presentation.sort) heavy (all_keys samples)
           ∙ ap (λ ks. filter heavy (each_once order ks)) (sym (kept_all (is_heavy_key key_cmp total none.billionths samples) (all_keys samples) (λ k. heavy_always total none.billionths (cum key_cmp samples k) zero))));
       samples = refl;
       total = refl;

@@ -6,7 +6,7 @@ use Rattle.std.proofs.lemmas.Bool.{and_parts}
 use Rattle.std.proofs.lemmas.List.{length-map}
 use Rattle.std.proofs.lemmas.List.Elements.{recursion_from_All}
 use Rattle.pp_model.specs.declared.config.Config.{Config}
-use Rattle.pp_model.specs.declared.config.Grain.{Grain}
+use Rattle.pp_model.specs.declared.grouping.Grain.{Grain}
 use Rattle.pp_model.specs.declared.profile.Function.{Function}
 use Rattle.pp_model.specs.declared.profile.Mapping.{Mapping}
 use Rattle.pp_model.specs.declared.profile.Profile.{Profile}
@@ -118,7 +118,7 @@ module _ (b : Profile) (valid : NoRuleFails b) where
   pub labelled_keeps : (grain : Grain) (p : Profile) → KeepsMappings grain (p ∷ b ∷ []) b → KeepsMappings grain (p ∷ labelled ∷ []) labelled
   labelled_keeps grain p keeps = keeps_each grain p b.mapping all_mapping_texts keeps
 
-module _ (f : Finders) (config : Config) (column : ℕ) (divisor : config.divide_by ≡ 1) (tagfocus : config.tagfocus ≡ []) (tagignore : config.tagignore ≡ []) where
+module _ (f : Finders) (config : Config) (column : ℕ) (divisor : config.presentation.divide_by ≡ 1) (tagfocus : config.filtering.tagfocus ≡ []) (tagignore : config.filtering.tagignore ≡ []) where
   -- where no tag filter is in force all labels pass
   all_pass : (labels : List LabelText) → tags_told f config labels ≡ true
   all_pass labels = λ i. selects_told true (filter_in_force (tagfocus i)) f.tagfocus labels && not (selects_told false (filter_in_force (tagignore i)) f.tagignore labels)
@@ -131,9 +131,9 @@ module _ (f : Finders) (config : Config) (column : ℕ) (divisor : config.divide
     same_says : (test : List Written → Bool) (s : Sample)
         → says f config column divisor test (told_in (labelled b valid) [] (labelled b valid) (marked s)) ≡ says f config column divisor test (told_in b [] b s)
     same_says test s =
-        ap (λ t. t && passes f config test (told_from config.grain 0 (told_in (labelled b valid) [] (labelled b valid) (marked s)).locations)) (all_pass (told_in (labelled b valid) [] (labelled b valid) (marked s)).labels)
-        ∙ (λ i. passes f config test (told_from config.grain 0 (map (same_location_found b valid (first_alike (same_alone b valid i)) i) s.location_id)))
-        ∙ ap (λ t. t && passes f config test (told_from config.grain 0 (told_in b [] b s).locations)) (sym (all_pass (told_in b [] b s).labels))
+        ap (λ t. t && passes f config test (told_from config.grouping.grain 0 (told_in (labelled b valid) [] (labelled b valid) (marked s)).locations)) (all_pass (told_in (labelled b valid) [] (labelled b valid) (marked s)).labels)
+        ∙ (λ i. passes f config test (told_from config.grouping.grain 0 (map (same_location_found b valid (first_alike (same_alone b valid i)) i) s.location_id)))
+        ∙ ap (λ t. t && passes f config test (told_from config.grouping.grain 0 (told_in b [] b s).locations)) (sym (all_pass (told_in b [] b s).labels))
 
     said_labelled : (test : List Written → Bool) → said f config column divisor test (labelled b valid) ≡ neg_ℤ (said f config column divisor test b)
     said_labelled test =
@@ -157,8 +157,8 @@ module _ (f : Finders) (config : Config) (column : ℕ) (divisor : config.divide
       values = (can.values.0, (values_labelled (length p.sample_type) can.values.1.0, tt));
       starts = can.starts;
       mappings = (
-        subst (λ (all : List MappingText). AllByRecursion (λ m. IsPlacedAs config.grain (first_alike all (mapping_text p m)) (first_alike (all_mappings (p ∷ [])) (mapping_text p m))) p.mapping) (sym (same_all b valid p)) can.mappings.0,
-        (labelled_keeps b valid config.grain p can.mappings.1.0, tt),
+        subst (λ (all : List MappingText). AllByRecursion (λ m. IsPlacedAs config.grouping.grain (first_alike all (mapping_text p m)) (first_alike (all_mappings (p ∷ [])) (mapping_text p m))) p.mapping) (sym (same_all b valid p)) can.mappings.0,
+        (labelled_keeps b valid config.grouping.grain p can.mappings.1.0, tt),
       );
       divisor = divisor;
     }

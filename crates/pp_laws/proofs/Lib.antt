@@ -18,5 +18,5 @@ pub mod Subtracting
 pub mod Labelled
 pub mod Comparing
 mod SumsMoved
-mod LoadedOrder
+pub mod LoadedOrder
 mod Accounted

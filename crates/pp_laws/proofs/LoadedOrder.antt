@@ -36,7 +36,7 @@ use Rattle.pp_laws.proofs.SeenAs.{value_told, value_same, sees, telling, Fine, e
 use Rattle.pp_laws.proofs.SumsMoved.{sums_moved}
 
 -- profiles with one header have the same columns
-same_columns : (p q : Profile) → header_of q [] ≡ header_of p [] → (text : List ℕ) → column_of q text ≡ column_of p text
+pub same_columns : (p q : Profile) → header_of q [] ≡ header_of p [] → (text : List ℕ) → column_of q text ≡ column_of p text
 same_columns p q header =
     columns_alike p q
     (sym (map-map (λ (t : TypeText). t.kind) (type_text q) q.sample_type) ∙ ap (λ (h : HeaderText). map (λ t. t.kind) h.types) header
@@ -58,7 +58,7 @@ module _ (f : Finders) (config : Config) (column : Option ℕ) where
   sees_item = sees f config column
 
   abbrev value_item : SampleText × List ℤ → ℤ
-  value_item item = value_told column config.divide_by item.1
+  value_item item = value_told column config.presentation.divide_by item.1
 
   abbrev is_base_item : SampleText × List ℤ → Bool
   is_base_item item = tell_base item.0.labels
@@ -68,9 +68,9 @@ module _ (f : Finders) (config : Config) (column : Option ℕ) where
   contents_told c settled =
       let p : Profile = written c in
       let say : Sample → SampleText × List ℤ = telling c settled in
-      let relative : Bool = config.relative_percentages in
+      let relative : Bool = config.presentation.relative_percentages in
       let seen_all : Sample → Option (Seen Written) = seen p f config column in
-      let value_all : Sample → ℤ = selected column config.divide_by in
+      let value_all : Sample → ℤ = selected column config.presentation.divide_by in
       let back : map say p.sample ≡ c.samples = samples_back c settled in
       let own = own_told p f config column in
       let fine : AllByRecursion (λ s. seen_all s ≡ sees_item (say s)) p.sample = all_by (Fine c settled) _ (seen_as c settled f config column) p.sample (each_fine c settled) in
@@ -80,7 +80,7 @@ module _ (f : Finders) (config : Config) (column : Option ℕ) where
       sum_by_said say _ (λ item. cond (cond relative (is_some (sees_item item)) true) (told item) 0) p.sample
       (all_by (λ s. seen_all s ≡ sees_item (say s)) _ (λ s is i. cond (cond relative (is_some (is i)) true) (each s i) 0) p.sample fine)
       ∙ ap (sum_by (λ item. cond (cond relative (is_some (sees_item item)) true) (told item) 0)) back in
-      let value_is : (s : Sample) → value_all s ≡ value_item (say s) = value_same column config.divide_by in
+      let value_is : (s : Sample) → value_all s ≡ value_item (say s) = value_same column config.presentation.divide_by in
       record {
         samples = own.samples ∙ ap weighed (filter_map_said say seen_all sees_item p.sample fine ∙ ap (filter_map sees_item) back);
         total = own.total ∙ (λ i. total_by

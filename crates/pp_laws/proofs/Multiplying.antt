@@ -12,6 +12,7 @@ use Rattle.pp_model.specs.declared.frame.Frame.{Frame}
 use Rattle.pp_model.specs.declared.profile.Profile.{Profile}
 use Rattle.pp_model.specs.declared.profile.Sample.{Sample}
 use Rattle.pp_model.specs.declared.report.BaseKind.TheVariants.{Base}
+use Rattle.pp_model.specs.declared.filtering.Filtering.{Filtering}
 use Rattle.pp_model.specs.Finders.{Finders, TagFinders}
 use Rattle.pp_model.specs.FrameTexts.{Written}
 use Rattle.pp_model.specs.Sizes.{value_in}
@@ -47,9 +48,9 @@ module _ (p : Profile) (values : List ℤ) (s : Sample) where
   same_tags other None parts = refl
   same_tags other (Some filter) parts = ap (option_map_or (λ range. selects_range p filter.name range s) filter.range) (same_parts filter.name parts)
 
-  same_stack : (f : Finders) (config : Config) → filtered_stack p f config (with_values values s) ≡ filtered_stack p f config s
-  same_stack f config = λ i.
-      cond (same_tags true (filter_in_force config.tagfocus) f.tagfocus i && not (same_tags false (filter_in_force config.tagignore) f.tagignore i)) (frames_of_sample p f s) None
+  same_stack : (f : Finders) (filtering : Filtering) → filtered_stack p f filtering (with_values values s) ≡ filtered_stack p f filtering s
+  same_stack f filtering = λ i.
+      cond (same_tags true (filter_in_force filtering.tagfocus) f.tagfocus i && not (same_tags false (filter_in_force filtering.tagignore) f.tagignore i)) (frames_of_sample p f s) None
 
 module _ (p : Profile) (f : Finders) (config : Config) (column num den : ℕ) where
   -- what is seen of the sample
@@ -60,24 +61,24 @@ module _ (p : Profile) (f : Finders) (config : Config) (column num den : ℕ) wh
   abbrev seen_after : Sample → Option (Seen Written)
   seen_after s = seen (scaled p column num den) f config (Some column) (scaled_sample column num den s)
 
-  part_scales : (test : List Written → Bool) (s : Sample) → ScalesEvenly column num den config.divide_by s
+  part_scales : (test : List Written → Bool) (s : Sample) → ScalesEvenly column num den config.presentation.divide_by s
       → option_map_or (part test) (seen_after s) (pos 0) *ℤ pos den ≡ option_map_or (part test) (seen_before s) (pos 0) *ℤ pos num
   part_scales test s even =
       ap (λ (o : Option (List Frame)). option_map_or (part test) (option_map (seen_with (scaled p column num den) config (Some column) (scaled_sample column num den s)) o) (pos 0) *ℤ pos den)
-      (same_stack p (set s.value column (scaled_value num den (value_in s column))) s f config)
-      ∙ elim (filtered_stack p f config s) as (λ (o : Option (List Frame)).
+      (same_stack p (set s.value column (scaled_value num den (value_in s column))) s f config.filtering)
+      ∙ elim (filtered_stack p f config.filtering s) as (λ (o : Option (List Frame)).
       option_map_or (part test) (option_map (seen_with (scaled p column num den) config (Some column) (scaled_sample column num den s)) o) (pos 0) *ℤ pos den
       ≡ option_map_or (part test) (option_map (seen_with p config (Some column) s) o) (pos 0) *ℤ pos num) [
         | None ↦ zero-*ℤ (pos den) ∙ sym (zero-*ℤ (pos num))
-        | Some stack ↦ of_either (test (keys_of_stack p config stack)) (selected (Some column) config.divide_by s) (selected (Some column) config.divide_by (scaled_sample column num den s)) num den even
+        | Some stack ↦ of_either (test (keys_of_stack p config.grouping stack)) (selected (Some column) config.presentation.divide_by s) (selected (Some column) config.presentation.divide_by (scaled_sample column num den s)) num den even
       ]
 
-  parts_scale : (test : List Written → Bool) (ss : List Sample) → AllByRecursion (ScalesEvenly column num den config.divide_by) ss
+  parts_scale : (test : List Written → Bool) (ss : List Sample) → AllByRecursion (ScalesEvenly column num den config.presentation.divide_by) ss
       → AllByRecursion (λ s. option_map_or (part test) (seen_after s) (pos 0) *ℤ pos den ≡ option_map_or (part test) (seen_before s) (pos 0) *ℤ pos num) ss
   parts_scale test [] even = tt
   parts_scale test (s ∷ ss) even = (part_scales test s even.0, parts_scale test ss even.1)
 
-  sums_scale : (test : List Written → Bool) → AllByRecursion (ScalesEvenly column num den config.divide_by) p.sample
+  sums_scale : (test : List Written → Bool) → AllByRecursion (ScalesEvenly column num den config.presentation.divide_by) p.sample
       → sum_where test (report_samples (scaled p column num den) f config (Some column)) *ℤ pos den ≡ sum_where test (report_samples p f config (Some column)) *ℤ pos num
   sums_scale test even =
       let before : Sample → ℤ = λ s. option_map_or (part test) (seen_before s) (pos 0) in
@@ -131,12 +132,12 @@ module _ (p : Profile) (f : Finders) (config : Config) (column : Option ℕ) whe
       → option_map_or (part test) (seen (negated Base p) f config column (negated_sample s)) (pos 0) ≡ neg_ℤ (option_map_or (part test) (seen p f config column s) (pos 0))
   part_negated test s =
       ap (λ (o : Option (List Frame)). option_map_or (part test) (option_map (seen_with (negated Base p) config column (negated_sample s)) o) (pos 0))
-      (same_stack p (map neg_ℤ s.value) s f config)
-      ∙ elim (filtered_stack p f config s) as (λ (o : Option (List Frame)).
+      (same_stack p (map neg_ℤ s.value) s f config.filtering)
+      ∙ elim (filtered_stack p f config.filtering s) as (λ (o : Option (List Frame)).
       option_map_or (part test) (option_map (seen_with (negated Base p) config column (negated_sample s)) o) (pos 0)
       ≡ neg_ℤ (option_map_or (part test) (option_map (seen_with p config column s) o) (pos 0))) [
         | None ↦ refl
-        | Some stack ↦ if_negated (test (keys_of_stack p config stack)) (selected column config.divide_by s) (selected column config.divide_by (negated_sample s)) (selected_negated column config.divide_by s)
+        | Some stack ↦ if_negated (test (keys_of_stack p config.grouping stack)) (selected column config.presentation.divide_by s) (selected column config.presentation.divide_by (negated_sample s)) (selected_negated column config.presentation.divide_by s)
       ]
 
   sums_negated : (test : List Written → Bool)

@@ -54,7 +54,7 @@ module _ (find : Finder) (p : Profile) (f : Finders) (config : Config) (column :
   seen_once : (s : Sample) → IsOneOf (seen p (focused find f) config column s) (seen p (ignoring find f) config column s) (seen p (undivided f) config column s)
   seen_once s =
       let stack : List Frame = load_pruned (written p) f (stack_of p s) in
-      one_of (seen_with p config column s) (passes_tags p f config s)
+      one_of (seen_with p config column s) (passes_tags p f config.filtering s)
       (list_any (λ x. finds_frame find (written p x)) stack) (left_of_cut (written p) f stack)
 
   samples_part : (ss : List Sample) → IsPermutation (seen_samples p (undivided f) config column ss)

@@ -8,8 +8,8 @@ use Rattle.std.proofs.lemmas.List.Sorted.{list_any-IsPermutation, sum_by-IsPermu
 use Rattle.std.proofs.lemmas.List.Sums.{sum_by-cons}
 use Rattle.std.proofs.lemmas.Map.Views.{any-filter_same}
 use Rattle.pp_model.specs.declared.config.Config.{Config}
-use Rattle.pp_model.specs.declared.config.Sort.{Sort}
-use Rattle.pp_model.specs.declared.config.Sort.TheVariants as sorts
+use Rattle.pp_model.specs.declared.presentation.Sort.{Sort}
+use Rattle.pp_model.specs.declared.presentation.Sort.TheVariants as sorts
 use Rattle.pp_model.specs.declared.frame.Frame.{Frame}
 use Rattle.pp_model.specs.declared.profile.Profile.{Profile}
 use Rattle.pp_model.specs.declared.profile.Sample.{Sample}
@@ -57,7 +57,7 @@ any_seen {Y = Y} test g (x ∷ xs) =
     ]
 
 -- orders by the same sums are the same
-same_order : (sort : Sort) (ss ts : List (Seen Written)) → flat key_cmp ss ≡ flat key_cmp ts → cum key_cmp ss ≡ cum key_cmp ts
+pub same_order : (sort : Sort) (ss ts : List (Seen Written)) → flat key_cmp ss ≡ flat key_cmp ts → cum key_cmp ss ≡ cum key_cmp ts
     → report_order key_cmp sort ss ≡ report_order key_cmp sort ts
 same_order sorts.Flat ss ts flats cums = λ i. then_cmp (by_size (flats i)) (then_cmp (by_size (cums i)) key_cmp)
 same_order sorts.Cum ss ts flats cums = λ i. then_cmp (by_size (cums i)) (then_cmp (by_size (flats i)) key_cmp)
@@ -97,7 +97,7 @@ module _ {X : Type 0} (sees : X → Option (Seen Written)) (value : X → ℤ) (
   pub record IsToldFrom (xs : List X) (p : Profile) (f : Finders) (config : Config) (column : Option ℕ) : Type 0 where
     pub samples : report_samples p f config column ≡ weighed (filter_map sees xs)
     pub total : total_of p f config column
-        ≡ total_by (sum_by (base_size config.relative_percentages) xs) (sum_by (all_size config.relative_percentages) xs)
+        ≡ total_by (sum_by (base_size config.presentation.relative_percentages) xs) (sum_by (all_size config.presentation.relative_percentages) xs)
 
   -- Reports that are told from the same items, in any order, have the same figures.
   module _ (xs ys : List X) (moved : IsPermutation xs ys) (p q : Profile) (f : Finders) (config : Config) (column : Option ℕ)
@@ -117,7 +117,7 @@ module _ {X : Type 0} (sees : X → Option (Seen Written)) (value : X → ℤ) (
     totals : total_of p f config column ≡ total_of q f config column
     totals =
         first.total
-        ∙ (λ i. total_by (sym (sum_by-IsPermutation (base_size config.relative_percentages) xs ys moved) i) (sym (sum_by-IsPermutation (all_size config.relative_percentages) xs ys moved) i))
+        ∙ (λ i. total_by (sym (sum_by-IsPermutation (base_size config.presentation.relative_percentages) xs ys moved) i) (sym (sum_by-IsPermutation (all_size config.presentation.relative_percentages) xs ys moved) i))
         ∙ sym second.total
 
     pub same_figures : ((text : List ℕ) → column_of p text ≡ column_of q text) → HaveSameFigures p q f config column
@@ -129,37 +129,37 @@ module _ {X : Type 0} (sees : X → Option (Seen Written)) (value : X → ℤ) (
       edge_occurs = λ kept a b. finds (has_edge key_cmp kept a b);
       edge = λ kept a b. sums (has_edge key_cmp kept a b);
       total = totals;
-      rows = λ limit. ap (shown_keys limit) (same_rows config.sort (total_of p f config column) (total_of q f config column) config.nodefraction.billionths
+      rows = λ limit. ap (shown_keys limit) (same_rows config.presentation.sort (total_of p f config column) (total_of q f config column) config.presentation.nodefraction.billionths
           (report_samples p f config column) (report_samples q f config column) totals
           (λ k. sums (leads key_cmp k)) (λ k. sums (has key_cmp k)) (λ k. finds (has key_cmp k)));
     }
 
 module _ (p : Profile) (f : Finders) (config : Config) (column : Option ℕ) where
   abbrev size : Sample → ℕ
-  size s = nat_abs (selected column config.divide_by s)
+  size s = nat_abs (selected column config.presentation.divide_by s)
 
   -- the total as sums over all samples
   total_told : total_of p f config column
-      ≡ total_by (sum_by (base_size (seen p f config column) (selected column config.divide_by) (is_base p) config.relative_percentages) p.sample)
-      (sum_by (all_size (seen p f config column) (selected column config.divide_by) (is_base p) config.relative_percentages) p.sample)
+      ≡ total_by (sum_by (base_size (seen p f config column) (selected column config.presentation.divide_by) (is_base p) config.presentation.relative_percentages) p.sample)
+      (sum_by (all_size (seen p f config column) (selected column config.presentation.divide_by) (is_base p) config.presentation.relative_percentages) p.sample)
   total_told =
-      let kept_seen : (s : Sample) → is_some (filtered_stack p f config s) ≡ is_some (seen p f config column s) = λ s.
-      elim (filtered_stack p f config s) as (λ (o : Option (List Frame)). is_some o ≡ is_some (option_map (seen_with p config column s) o)) [ None ↦ refl | Some stack ↦ refl ] in
-      elim config.relative_percentages as (λ b. total_over p config column (cond b (filtered_samples p f config p.sample) p.sample)
-      ≡ total_by (sum_by (base_size (seen p f config column) (selected column config.divide_by) (is_base p) b) p.sample)
-      (sum_by (all_size (seen p f config column) (selected column config.divide_by) (is_base p) b) p.sample)) [
+      let kept_seen : (s : Sample) → is_some (filtered_stack p f config.filtering s) ≡ is_some (seen p f config column s) = λ s.
+      elim (filtered_stack p f config.filtering s) as (λ (o : Option (List Frame)). is_some o ≡ is_some (option_map (seen_with p config column s) o)) [ None ↦ refl | Some stack ↦ refl ] in
+      elim config.presentation.relative_percentages as (λ b. total_over p config.presentation column (cond b (filtered_samples p f config.filtering p.sample) p.sample)
+      ≡ total_by (sum_by (base_size (seen p f config column) (selected column config.presentation.divide_by) (is_base p) b) p.sample)
+      (sum_by (all_size (seen p f config column) (selected column config.presentation.divide_by) (is_base p) b) p.sample)) [
         | true ↦
             let kept : Sample → Bool = λ s. is_some (seen p f config column s) in
-            (λ i. total_over p config column (filter (λ s. kept_seen s i) p.sample))
+            (λ i. total_over p config.presentation column (filter (λ s. kept_seen s i) p.sample))
             ∙ (λ i. total_by ((sum_filtered size (is_base p) (filter kept p.sample) ∙ sum_filtered (λ s. cond (is_base p s) (size s) 0) kept p.sample) i) (sum_filtered size kept p.sample i))
         | false ↦ λ i. total_by (sum_filtered size (is_base p) p.sample i) (sum_by size p.sample)
       ]
 
   -- A report is told from the profile's own samples.
-  pub own_told : IsToldFrom (seen p f config column) (selected column config.divide_by) (is_base p) p.sample p f config column
+  pub own_told : IsToldFrom (seen p f config column) (selected column config.presentation.divide_by) (is_base p) p.sample p f config column
   own_told = record { samples = refl; total = total_told }
 
 pub order_is_free : OrderIsFree
 order_is_free p samples f config column moved =
-    same_figures (seen p f config column) (selected column config.divide_by) (is_base p) p.sample samples moved p (with_samples samples p) f config column
+    same_figures (seen p f config column) (selected column config.presentation.divide_by) (is_base p) p.sample samples moved p (with_samples samples p) f config column
     (own_told p f config column) (own_told (with_samples samples p) f config column) (λ text. refl)

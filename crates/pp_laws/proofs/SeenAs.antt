@@ -7,8 +7,8 @@ use Rattle.std.specs.Str.{bytes_eq}
 use Rattle.std.proofs.lemmas.List.Elements.{recursion_from_All}
 use Rattle.pp_base.proofs.Lists.{all_by}
 use Rattle.pp_model.specs.declared.config.Config.{Config}
-use Rattle.pp_model.specs.declared.config.Grain.{Grain}
-use Rattle.pp_model.specs.declared.config.Grain.TheVariants.{Functions, FileFunctions, Files, Lines, Addresses}
+use Rattle.pp_model.specs.declared.grouping.Grain.{Grain}
+use Rattle.pp_model.specs.declared.grouping.Grain.TheVariants.{Functions, FileFunctions, Files, Lines, Addresses}
 use Rattle.pp_model.specs.declared.frame.Frame.{Frame}
 use Rattle.pp_model.specs.declared.profile.Profile.{Profile}
 use Rattle.pp_model.specs.declared.profile.Sample.{Sample}
@@ -42,7 +42,7 @@ use Rattle.pp_laws.proofs.Tagging.{tags_told, tags_is, labels_tell, TellsText}
 use Rattle.pp_laws.proofs.Telling.{told_from, told_counted, placed, counted_told, frames_told, located_by}
 
 -- a key doesn't tell more of an address than its grain does
-key_by : (grain : Grain) (showcolumns : Bool) (w : Written) → key_texts grain showcolumns w ≡ key_texts grain showcolumns (located_by grain w)
+pub key_by : (grain : Grain) (showcolumns : Bool) (w : Written) → key_texts grain showcolumns w ≡ key_texts grain showcolumns (located_by grain w)
 key_by Functions showcolumns w = refl
 key_by FileFunctions showcolumns w = refl
 key_by Files showcolumns w = refl
@@ -61,7 +61,7 @@ value_same (Some column) divide_by s = refl
 -- Filters over what a sample says.
 module _ (f : Finders) (config : Config) where
   abbrev keys_told : List (ℕ × Written) → List Written
-  keys_told xs = map (key_texts config.grain config.showcolumns) (told_counted config.noinlines xs)
+  keys_told xs = map (key_texts config.grouping.grain config.grouping.showcolumns) (told_counted config.grouping.noinlines xs)
 
   -- the keys that a report sees, none where the filters drop the sample
   abbrev pub shows : List (ℕ × Written) → Option (List Written)
@@ -71,37 +71,37 @@ module _ (f : Finders) (config : Config) where
   abbrev pub sees : Option ℕ → SampleText × List ℤ → Option (Seen Written)
   sees column item =
       cond (tags_told f config item.0.labels)
-      (option_map (λ keys. record { value = value_told column config.divide_by item.1; keys = keys }) (shows (told_from config.grain 0 item.0.locations))) None
+      (option_map (λ keys. record { value = value_told column config.presentation.divide_by item.1; keys = keys }) (shows (told_from config.grouping.grain 0 item.0.locations))) None
 
   -- whether the keys pass a test
   abbrev pub passes : (List Written → Bool) → List (ℕ × Written) → Bool
   passes test xs = option_map_or test (shows xs) false
 
   module _ (p : Profile) where
-    keys_mapped : (stack : List Frame) → map (key_of_frame p config) stack ≡ map (key_texts config.grain config.showcolumns) (map (λ x. located_by config.grain (written p x)) stack)
+    keys_mapped : (stack : List Frame) → map (key_of_frame p config.grouping) stack ≡ map (key_texts config.grouping.grain config.grouping.showcolumns) (map (λ x. located_by config.grouping.grain (written p x)) stack)
     keys_mapped [] = refl
-    keys_mapped (x ∷ stack) = λ i. key_by config.grain config.showcolumns (written p x) i ∷ keys_mapped stack i
+    keys_mapped (x ∷ stack) = λ i. key_by config.grouping.grain config.grouping.showcolumns (written p x) i ∷ keys_mapped stack i
 
-    keys_same : (stack : List Frame) → keys_of_stack p config stack ≡ keys_told (map (placed config.grain p) stack)
-    keys_same stack = keys_mapped (counted_frames config.noinlines stack) ∙ ap (map (key_texts config.grain config.showcolumns)) (counted_told config.grain p config.noinlines stack)
+    keys_same : (stack : List Frame) → keys_of_stack p config.grouping stack ≡ keys_told (map (placed config.grouping.grain p) stack)
+    keys_same stack = keys_mapped (counted_frames config.grouping.noinlines stack) ∙ ap (map (key_texts config.grouping.grain config.grouping.showcolumns)) (counted_told config.grouping.grain p config.grouping.noinlines stack)
 
     -- A sample is seen by its tags, its value, and what its stack is told as.
     seen_by : (column : Option ℕ) (s : Sample)
         → seen p f config column s
-        ≡ cond (passes_tags p f config s)
-        (option_map (λ keys. record { value = selected column config.divide_by s; keys = keys }) (shows (map (placed config.grain p) (stack_of p s)))) None
+        ≡ cond (passes_tags p f config.filtering s)
+        (option_map (λ keys. record { value = selected column config.presentation.divide_by s; keys = keys }) (shows (map (placed config.grouping.grain p) (stack_of p s)))) None
     seen_by column s =
-        let with_keys : List Written → Seen Written = λ keys. record { value = selected column config.divide_by s; keys = keys } in
-        elim (passes_tags p f config s) as (λ (b : Bool). option_map (seen_with p config column s) (cond b (frames_of_sample p f s) None)
-        ≡ cond b (option_map with_keys (shows (map (placed config.grain p) (stack_of p s)))) None) [
+        let with_keys : List Written → Seen Written = λ keys. record { value = selected column config.presentation.divide_by s; keys = keys } in
+        elim (passes_tags p f config.filtering s) as (λ (b : Bool). option_map (seen_with p config column s) (cond b (frames_of_sample p f s) None)
+        ≡ cond b (option_map with_keys (shows (map (placed config.grouping.grain p) (stack_of p s)))) None) [
           | false ↦ refl
           | true ↦ elim (frames_of_sample p f s) as (λ (o : Option (List Frame)). option_map (seen_with p config column s) o
-              ≡ option_map with_keys (option_map keys_told (option_map (map (placed config.grain p)) o))) [
+              ≡ option_map with_keys (option_map keys_told (option_map (map (placed config.grouping.grain p)) o))) [
                 | None ↦ refl
                 | Some stack ↦ λ i. Some (with_keys (keys_same stack i))
               ]
               ∙ ap (λ (o : Option (List (ℕ × Written))). option_map with_keys (option_map keys_told o))
-              (sym (filtered-map (placed config.grain p) (λ (x : ℕ × Written). x.1) f (stack_of p s)))
+              (sym (filtered-map (placed config.grouping.grain p) (λ (x : ℕ × Written). x.1) f (stack_of p s)))
         ]
 
 -- A written profile of settled contents.
@@ -145,6 +145,6 @@ module _ (c : Contents) (settled : IsSettled c) where
   seen_as f config column s fine =
       seen_by f config whole column s
       ∙ (λ i. cond (tags_is whole s fine.1 f config i)
-      (option_map (λ keys. record { value = value_same column config.divide_by s i; keys = keys })
-      (shows f config (frames_told whole (first_alike (all_mappings (whole ∷ []))) (mappings_stay whole starts again) none compact.locations (addresses_small whole again) config.grain 0 s.location_id fine.0 i)))
+      (option_map (λ keys. record { value = value_same column config.presentation.divide_by s i; keys = keys })
+      (shows f config (frames_told whole (first_alike (all_mappings (whole ∷ []))) (mappings_stay whole starts again) none compact.locations (addresses_small whole again) config.grouping.grain 0 s.location_id fine.0 i)))
       None)

@@ -7,7 +7,7 @@ use Rattle.std.proofs.Math.IntN.{+ℤ_idr}
 use Rattle.std.proofs.lemmas.List.{length-map}
 use Rattle.pp_base.proofs.Lists.{all_by}
 use Rattle.pp_model.specs.declared.config.Config.{Config}
-use Rattle.pp_model.specs.declared.config.Grain.TheVariants.{Addresses}
+use Rattle.pp_model.specs.declared.grouping.Grain.TheVariants.{Addresses}
 use Rattle.pp_model.specs.declared.profile.Mapping.{Mapping}
 use Rattle.pp_model.specs.declared.profile.Profile.{Profile}
 use Rattle.pp_model.specs.declared.profile.Sample.{Sample}
@@ -46,21 +46,21 @@ both_hold : (a b : Bool) (v : ℤ) → cond a (cond b v (pos 0)) (pos 0) ≡ con
 both_hold true b v = refl
 both_hold false b v = refl
 
-module _ (f : Finders) (config : Config) (column : ℕ) (divisor : config.divide_by ≡ 1) where
+module _ (f : Finders) (config : Config) (column : ℕ) (divisor : config.presentation.divide_by ≡ 1) where
   -- the test of what a sample says
   abbrev pub says : (List Written → Bool) → SampleText → Bool
-  says test t = tags_told f config t.labels && passes f config test (told_from config.grain 0 t.locations)
+  says test t = tags_told f config t.labels && passes f config test (told_from config.grouping.grain 0 t.locations)
 
   -- what a sample adds to a sum, by what it says
   part_told : (test : List Written → Bool) (item : SampleText × List ℤ)
       → option_map_or (part test) (sees f config (Some column) item) (pos 0) ≡ cond (says test item.0) (get_or item.1 column (pos 0)) (pos 0)
   part_told test item =
       let value : ℤ = get_or item.1 column (pos 0) in
-      let with_keys : List Written → Seen Written = λ keys. record { value = value_told (Some column) config.divide_by item.1; keys = keys } in
-      elim (tags_told f config item.0.labels) as (λ (b : Bool). option_map_or (part test) (cond b (option_map with_keys (shows f config (told_from config.grain 0 item.0.locations))) None) (pos 0)
-      ≡ cond (b && passes f config test (told_from config.grain 0 item.0.locations)) value (pos 0)) [
+      let with_keys : List Written → Seen Written = λ keys. record { value = value_told (Some column) config.presentation.divide_by item.1; keys = keys } in
+      elim (tags_told f config item.0.labels) as (λ (b : Bool). option_map_or (part test) (cond b (option_map with_keys (shows f config (told_from config.grouping.grain 0 item.0.locations))) None) (pos 0)
+      ≡ cond (b && passes f config test (told_from config.grouping.grain 0 item.0.locations)) value (pos 0)) [
         | false ↦ refl
-        | true ↦ elim (shows f config (told_from config.grain 0 item.0.locations)) as (λ (o : Option (List Written)). option_map_or (part test) (option_map with_keys o) (pos 0)
+        | true ↦ elim (shows f config (told_from config.grouping.grain 0 item.0.locations)) as (λ (o : Option (List Written)). option_map_or (part test) (option_map with_keys o) (pos 0)
             ≡ cond (option_map_or test o false) value (pos 0)) [
               | None ↦ refl
               | Some keys ↦ λ i. cond (test keys) ((ap (λ d. int_div value (pos d)) divisor ∙ by_one value) i) (pos 0)
@@ -129,14 +129,14 @@ module _ (f : Finders) (config : Config) (column : ℕ) (divisor : config.divide
         ∙ said_by_sources (λ t. who t.labels && says test t)
 
   -- Each source says in the merge of all what it says alone.
-  module _ (p : Profile) (ps : List Profile) (q : Profile) (keeps : KeepsMappings config.grain (p ∷ ps) q) where
+  module _ (p : Profile) (ps : List Profile) (q : Profile) (keeps : KeepsMappings config.grouping.grain (p ∷ ps) q) where
     abbrev among : MappingText → MappingText
     among = first_alike (all_mappings (p ∷ ps))
 
     abbrev alone : MappingText → MappingText
     alone = first_alike (all_mappings (q ∷ []))
 
-    same_starts : (id : ℕ) → config.grain ≡ Addresses → start_of (option_map among (mapping_found q id)) ≡ start_of (option_map alone (mapping_found q id))
+    same_starts : (id : ℕ) → config.grouping.grain ≡ Addresses → start_of (option_map among (mapping_found q id)) ≡ start_of (option_map alone (mapping_found q id))
     same_starts id told = by (mapping_with q id) refl
       where
         by : (o : Option Mapping) → mapping_with q id ≡ o → start_of (option_map among (option_map (mapping_text q) o)) ≡ start_of (option_map alone (option_map (mapping_text q) o))
@@ -151,7 +151,7 @@ module _ (f : Finders) (config : Config) (column : ℕ) (divisor : config.divide
         by (Some m) is = (found_holds _ (λ (x : Mapping). x.id == id) q.mapping keeps m is).0.file
 
     same_said : (test : List Written → Bool) (s : Sample) → cond (says test (told_in p ps q s)) (value_in s column) (pos 0) ≡ cond (says test (told_in q [] q s)) (value_in s column) (pos 0)
-    same_said test s = ap (λ xs. cond (tags_told f config (map (label_text (text_of q)) s.label) && passes f config test xs) (value_in s column) (pos 0)) (same_told config.grain q among alone same_starts same_files 0 s.location_id)
+    same_said test s = ap (λ xs. cond (tags_told f config (map (label_text (text_of q)) s.label) && passes f config test xs) (value_in s column) (pos 0)) (same_told config.grouping.grain q among alone same_starts same_files 0 s.location_id)
 
     pub source_said : AllByRecursion (λ m. m.start < 2 ^ 64) q.mapping → length q.sample_type ≡ length p.sample_type → HasValues (length p.sample_type) q → column < length p.sample_type
         → (test : List Written → Bool) → sum_of_sources test p ps q ≡ sum_where test (report_samples (merged q []) f config (Some column))
@@ -174,7 +174,7 @@ module _ (f : Finders) (config : Config) (column : ℕ) (divisor : config.divide
       figure_said p ps (starts_of p ps can) can.values can.within test
       ∙ sym (sum_total (sum_of_sources test p ps) (p ∷ ps))
       ∙ sum_each (sum_of_sources test p ps) (λ q. sum_where test (report_samples (merged q []) f config (Some column))) (p ∷ ps)
-      (all_by (λ q. (KeepsMappings config.grain (p ∷ ps) q) × ((AllByRecursion (λ m. m.start < 2 ^ 64) q.mapping) × ((length q.sample_type ≡ length p.sample_type) × (HasValues (length p.sample_type) q)))) _
+      (all_by (λ q. (KeepsMappings config.grouping.grain (p ∷ ps) q) × ((AllByRecursion (λ m. m.start < 2 ^ 64) q.mapping) × ((length q.sample_type ≡ length p.sample_type) × (HasValues (length p.sample_type) q)))) _
       (λ q of. source_said p ps q of.0 of.1.0 of.1.1.0 of.1.1.1 can.within test) (p ∷ ps)
       (all_both _ _ (p ∷ ps) can.mappings (all_both _ _ (p ∷ ps) can.starts (all_both _ _ (p ∷ ps) can.types can.values))))
 

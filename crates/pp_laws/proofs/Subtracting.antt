@@ -112,7 +112,7 @@ nothing_is_left p values = record {
   reports = λ f config column. ap (λ ss. weighed (seen_samples (less_base Base p p) f config column ss)) (nothing p values);
 }
 
-module _ (f : Finders) (config : Config) (column : ℕ) (divisor : config.divide_by ≡ 1) where
+module _ (f : Finders) (config : Config) (column : ℕ) (divisor : config.presentation.divide_by ≡ 1) where
   abbrev pub said : (List Written → Bool) → Profile → ℤ
   said test q = sum_of_sources f config column divisor test q [] q
 

@@ -53,8 +53,8 @@ selects_told other filter parts labels =
 -- the labels pass both tag filters
 abbrev pub tags_told : Finders → Config → List LabelText → Bool
 tags_told f config labels =
-    selects_told true (filter_in_force config.tagfocus) f.tagfocus labels
-    && not (selects_told false (filter_in_force config.tagignore) f.tagignore labels)
+    selects_told true (filter_in_force config.filtering.tagfocus) f.tagfocus labels
+    && not (selects_told false (filter_in_force config.filtering.tagignore) f.tagignore labels)
 
 list_any_each : {X : Type 0} (g h : X → Bool) (xs : List X) → AllByRecursion (λ x. g x ≡ h x) xs → list_any g xs ≡ list_any h xs
 list_any_each g h [] all = refl
@@ -107,8 +107,8 @@ module _ (p : Profile) where
     selects_is other (Some f) parts = λ i. option_map_or (λ range. range_is f.name range i) f.range (parts_is f.name parts i)
 
     -- Tag filters are passed by what the labels say.
-    pub tags_is : (f : Finders) (config : Config) → passes_tags p f config s ≡ tags_told f config (map said s.label)
-    tags_is f config = λ i. selects_is true (filter_in_force config.tagfocus) f.tagfocus i && not (selects_is false (filter_in_force config.tagignore) f.tagignore i)
+    pub tags_is : (f : Finders) (config : Config) → passes_tags p f config.filtering s ≡ tags_told f config (map said s.label)
+    tags_is f config = λ i. selects_is true (filter_in_force config.filtering.tagfocus) f.tagfocus i && not (selects_is false (filter_in_force config.filtering.tagignore) f.tagignore i)
 
 nonzero : (k : ℕ) → int_eq (pos (suc k)) (pos 0) ≡ false
 nonzero k = by (int_eq (pos (suc k)) (pos 0)) refl

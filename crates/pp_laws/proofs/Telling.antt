@@ -5,8 +5,8 @@ use Rattle.std.specs.List.{AllByRecursion, range_with_len}
 use Rattle.std.specs.Option.{option_map_or}
 use Rattle.std.proofs.lemmas.List.{map-append}
 use Rattle.std.proofs.lemmas.List.Elements.{All-head, All-tail}
-use Rattle.pp_model.specs.declared.config.Grain.{Grain}
-use Rattle.pp_model.specs.declared.config.Grain.TheVariants.{Functions, FileFunctions, Files, Lines, Addresses}
+use Rattle.pp_model.specs.declared.grouping.Grain.{Grain}
+use Rattle.pp_model.specs.declared.grouping.Grain.TheVariants.{Functions, FileFunctions, Files, Lines, Addresses}
 use Rattle.pp_model.specs.declared.frame.Frame.{Frame}
 use Rattle.pp_model.specs.declared.profile.Line.{Line}
 use Rattle.pp_model.specs.declared.profile.Location.{Location}

@@ -11,6 +11,7 @@ use Rattle.pp_model.specs.declared.config.Config.{Config}
 use Rattle.pp_model.specs.declared.frame.Frame.{Frame}
 use Rattle.pp_model.specs.declared.profile.Sample.{Sample}
 use Rattle.pp_model.specs.declared.profile.Profile.{Profile}
+use Rattle.pp_model.specs.declared.presentation.Presentation.{Presentation}
 use Rattle.pp_model.specs.Finders.{Finders}
 use Rattle.pp_model.specs.FrameTexts.{Written}
 use Rattle.pp_grain.specs.Keys.{key_cmp}
@@ -44,9 +45,9 @@ values_within p f config column none = go p.sample none where
   go : (ss : List Sample) → AllByRecursion (λ s. pos 0 ≤ℤ value_in s column) ss → NoneNegative (seen_samples p f config (Some column) ss)
   go [] all = tt
   go (s ∷ ss) all =
-      elim (filtered_stack p f config s) as (λ (o : Option (List Frame)). NoneNegative (cons_option (option_map (seen_with p config (Some column) s) o) (seen_samples p f config (Some column) ss))) [
+      elim (filtered_stack p f config.filtering s) as (λ (o : Option (List Frame)). NoneNegative (cons_option (option_map (seen_with p config (Some column) s) o) (seen_samples p f config (Some column) ss))) [
         | None ↦ go ss all.1
-        | Some stack ↦ (div_above (value_in s column) config.divide_by all.0, go ss all.1)
+        | Some stack ↦ (div_above (value_in s column) config.presentation.divide_by all.0, go ss all.1)
       ]
 
 pub shared_keys : SharedKeys
@@ -66,16 +67,16 @@ edges_within p f config column kept a b none =
 
 -- the samples that are seen have the values of those that the filters leave
 pub absolute_seen : (p : Profile) (f : Finders) (config : Config) (column : Option ℕ) (ss : List Sample)
-    → absolute (seen_samples p f config column ss) ≡ absolute_all column config.divide_by (filtered_samples p f config ss)
+    → absolute (seen_samples p f config column ss) ≡ absolute_all column config.presentation.divide_by (filtered_samples p f config.filtering ss)
 absolute_seen p f config column [] = refl
 absolute_seen p f config column (s ∷ ss) =
-    elim (filtered_stack p f config s) as (λ (o : Option (List Frame)). absolute (cons_option (option_map (seen_with p config column s) o) (seen_samples p f config column ss))
-    ≡ absolute_all column config.divide_by (cond (is_some o) (s ∷ filtered_samples p f config ss) (filtered_samples p f config ss))) [
+    elim (filtered_stack p f config.filtering s) as (λ (o : Option (List Frame)). absolute (cons_option (option_map (seen_with p config column s) o) (seen_samples p f config column ss))
+    ≡ absolute_all column config.presentation.divide_by (cond (is_some o) (s ∷ filtered_samples p f config.filtering ss) (filtered_samples p f config.filtering ss))) [
       | None ↦ absolute_seen p f config column ss
       | Some stack ↦
           sum_by-cons (λ (t : Seen Written). nat_abs t.value) (seen_with p config column s stack) (seen_samples p f config column ss)
-          ∙ ap (λ n. nat_abs (selected column config.divide_by s) + n) (absolute_seen p f config column ss)
-          ∙ sym (sum_by-cons (λ (t : Sample). nat_abs (selected column config.divide_by t)) s (filtered_samples p f config ss))
+          ∙ ap (λ n. nat_abs (selected column config.presentation.divide_by s) + n) (absolute_seen p f config column ss)
+          ∙ sym (sum_by-cons (λ (t : Sample). nat_abs (selected column config.presentation.divide_by t)) s (filtered_samples p f config.filtering ss))
     ]
 
 none_left : (test : Sample → Bool) (ss : List Sample) → list_any test ss ≡ false → filter test ss ≡ []
@@ -96,19 +97,19 @@ none_among test q (s ∷ ss) none = elim (test s) as (λ b. test s ≡ b → (b 
 ] refl none
 
 -- without a base the total is over all samples
-pub plain_total : (p : Profile) (config : Config) (column : Option ℕ) (ss : List Sample) → list_any (is_base p) ss ≡ false
-    → total_over p config column ss ≡ absolute_all column config.divide_by ss
-plain_total p config column ss none =
-    ap (λ base. total_by (absolute_all column config.divide_by base) (absolute_all column config.divide_by ss)) (none_left (is_base p) ss none)
+pub plain_total : (p : Profile) (presentation : Presentation) (column : Option ℕ) (ss : List Sample) → list_any (is_base p) ss ≡ false
+    → total_over p presentation column ss ≡ absolute_all column presentation.divide_by ss
+plain_total p presentation column ss none =
+    ap (λ base. total_by (absolute_all column presentation.divide_by base) (absolute_all column presentation.divide_by ss)) (none_left (is_base p) ss none)
 
 seen_within : (p : Profile) (f : Finders) (config : Config) (column : Option ℕ) → list_any (is_base p) p.sample ≡ false
     → absolute (seen_samples p f config column p.sample) ≤ total_of p f config column
 seen_within p f config column none =
-    let size : Sample → ℕ = λ s. nat_abs (selected column config.divide_by s) in
-    let filtered : List Sample = filtered_samples p f config p.sample in
-    elim config.relative_percentages as (λ b. absolute (seen_samples p f config column p.sample) ≤ total_over p config column (cond b filtered p.sample)) [
-      | true ↦ omega (arith, absolute_seen p f config column p.sample, plain_total p config column filtered (none_among (is_base p) (λ s. is_some (filtered_stack p f config s)) p.sample none))
-      | false ↦ omega (arith, absolute_seen p f config column p.sample, plain_total p config column p.sample none, filter_size size (λ s. is_some (filtered_stack p f config s)) p.sample)
+    let size : Sample → ℕ = λ s. nat_abs (selected column config.presentation.divide_by s) in
+    let filtered : List Sample = filtered_samples p f config.filtering p.sample in
+    elim config.presentation.relative_percentages as (λ b. absolute (seen_samples p f config column p.sample) ≤ total_over p config.presentation column (cond b filtered p.sample)) [
+      | true ↦ omega (arith, absolute_seen p f config column p.sample, plain_total p config.presentation column filtered (none_among (is_base p) (λ s. is_some (filtered_stack p f config.filtering s)) p.sample none))
+      | false ↦ omega (arith, absolute_seen p f config column p.sample, plain_total p config.presentation column p.sample none, filter_size size (λ s. is_some (filtered_stack p f config.filtering s)) p.sample)
     ]
 
 pub percentages_within : PercentagesWithin

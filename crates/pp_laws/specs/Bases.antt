@@ -46,7 +46,8 @@ abbrev pub LabelledBasesSubtract : Type 0
 LabelledBasesSubtract =
     (p base : Profile) (f : Finders) (config : Config) (column : ℕ)
     → AddUp p (base ∷ []) config column → NoRuleFails base
-    → config.tagfocus ≡ [] → config.tagignore ≡ [] → AreDifferences DiffBase p base f config column
+    → config.filtering.tagfocus ≡ [] → config.filtering.tagignore ≡ []
+    → AreDifferences DiffBase p base f config column
 
 -- A profile less itself has no sample, so no report of it has a key or an edge.
 pub record IsNothing (p : Profile) : Type 0 where

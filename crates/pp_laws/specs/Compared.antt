@@ -79,4 +79,5 @@ abbrev pub BothAreShown : Type 0
 BothAreShown =
     (p base : Profile) (f : Finders) (config : Config) (column : ℕ)
     → AddUp p (base ∷ []) config column → NoRuleFails base → has_base p ≡ false
-    → config.tagfocus ≡ [] → config.tagignore ≡ [] → AreBothShown p base f config column
+    → config.filtering.tagfocus ≡ [] → config.filtering.tagignore ≡ []
+    → AreBothShown p base f config column

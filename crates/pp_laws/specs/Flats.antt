@@ -18,7 +18,7 @@ use Rattle.pp_laws.specs.Figures.{has_frames}
 abbrev pub FlatsAddUp : Type 0
 FlatsAddUp =
     (l : Loaded) (v : Verdicts) (config : Config) (column : Option ℕ) (c : Counted) (f : Finders)
-    → IsCountedOf l v config column c → HoldsFilters l v config f
+    → IsCountedOf l v config column c → HoldsFilters l v config.filtering f
     → int_sum c.sums.flat
     ≡ sum_where has_frames (seen_samples l.profile f config column l.profile.sample)
 
@@ -26,7 +26,7 @@ FlatsAddUp =
 abbrev pub RowsAddUp : Type 0
 RowsAddUp =
     (p : Profile) (f : Finders) (config : Config) (column : Option ℕ)
-    → config.nodefraction.billionths ≡ 0
+    → config.presentation.nodefraction.billionths ≡ 0
     → int_sum (map (flat key_cmp (report_samples p f config column)) (report_keys p f config column 0))
     ≡ sum_where has_frames (seen_samples p f config column p.sample)
 

@@ -2,8 +2,8 @@
 use Rattle.std.specs.Prelude.{◌≡◌, ℕ, ◌<◌, ◌^◌, ℤ, Bool, List, [], ◌∷◌, length, map, Some}
 use Rattle.std.specs.List.{AllByRecursion}
 use Rattle.pp_model.specs.declared.config.Config.{Config}
-use Rattle.pp_model.specs.declared.config.Grain.{Grain}
-use Rattle.pp_model.specs.declared.config.Grain.TheVariants.{Addresses}
+use Rattle.pp_model.specs.declared.grouping.Grain.{Grain}
+use Rattle.pp_model.specs.declared.grouping.Grain.TheVariants.{Addresses}
 use Rattle.pp_model.specs.declared.profile.Profile.{Profile}
 use Rattle.pp_model.specs.Finders.{Finders}
 use Rattle.pp_model.specs.FrameTexts.{Written}
@@ -40,8 +40,8 @@ pub record AddUp (p : Profile) (ps : List Profile) (config : Config) (column : �
   pub types : AllByRecursion (λ q. length q.sample_type ≡ length p.sample_type) (p ∷ ps)
   pub values : AllByRecursion (HasValues (length p.sample_type)) (p ∷ ps)
   pub starts : AllByRecursion (λ q. AllByRecursion (λ m. m.start < 2 ^ 64) q.mapping) (p ∷ ps)
-  pub mappings : AllByRecursion (KeepsMappings config.grain (p ∷ ps)) (p ∷ ps)
-  pub divisor : config.divide_by ≡ 1
+  pub mappings : AllByRecursion (KeepsMappings config.grouping.grain (p ∷ ps)) (p ∷ ps)
+  pub divisor : config.presentation.divide_by ≡ 1
 
 -- the figure of each source alone, added up
 abbrev pub over_sources : (Profile → ℤ) → List Profile → ℤ

@@ -12,7 +12,8 @@ use Rattle.pp_graph.specs.Trim.{report_keys, shown_keys, is_heavy_key}
 
 -- the variables with this nodefraction
 abbrev pub at_nodefraction : Fraction → Config → Config
-at_nodefraction fraction config = record config { nodefraction = fraction }
+at_nodefraction fraction config =
+    record config { presentation = record config.presentation { nodefraction = fraction } }
 
 -- The rows are those of the report without limit, by this fraction, that are heavy enough, in their order, and of
 -- these the first. All figures are taken from the same samples and the same total.
@@ -20,7 +21,7 @@ pub record OnlyHides (none : Fraction) (p : Profile) (f : Finders) (config : Con
     (limit : ℕ) : Type 0 where
   pub rows : report_keys p f config column limit
       ≡ shown_keys limit (filter
-      (is_heavy_key key_cmp (total_of p f config column) config.nodefraction.billionths
+      (is_heavy_key key_cmp (total_of p f config column) config.presentation.nodefraction.billionths
       (report_samples p f config column))
       (report_keys p f (at_nodefraction none config) column 0))
   pub samples : report_samples p f (at_nodefraction none config) column ≡ report_samples p f config column

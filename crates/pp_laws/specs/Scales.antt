@@ -32,7 +32,7 @@ pub record AreScaled (num den : ℕ) (first second : List (Seen Written)) : Type
 abbrev pub FiguresScale : Type 0
 FiguresScale =
     (p : Profile) (f : Finders) (config : Config) (column num den : ℕ)
-    → AllByRecursion (ScalesEvenly column num den config.divide_by) p.sample
+    → AllByRecursion (ScalesEvenly column num den config.presentation.divide_by) p.sample
     → AreScaled num den (report_samples p f config (Some column))
     (report_samples (scaled p column num den) f config (Some column))
 

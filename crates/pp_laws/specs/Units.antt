@@ -12,7 +12,7 @@ use Rattle.pp_graph.specs.Trim.{report_keys}
 
 -- the variables with this unit
 abbrev pub with_unit : List ℕ → Config → Config
-with_unit unit config = record config { unit = unit }
+with_unit unit config = record config { presentation = record config.presentation { unit = unit } }
 
 -- A report in this unit is over the same samples, so its figures are the same. It shows the same rows in the same
 -- order.

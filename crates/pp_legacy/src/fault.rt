@@ -29,8 +29,8 @@ pub enum LegacyKind {
 pub struct LegacyFault {
     /// Which rule is broken.
     pub kind: LegacyKind,
-    /// The number of the word, from 0. Of `Truncated` it is the number of whole words that the file has, of `TooLarge`
-    /// the first word of the record, else the word whose value is refused.
+    /// The number of the word whose value is refused, from 0. Of `TooLarge` it is the first word of the record. Of
+    /// `Truncated` it is the number of whole words that the file has.
     pub word: u64,
 }
 

@@ -53,10 +53,10 @@ module _ {A : Type 0} (row : A → KeyRow) where
 
 -- a table's lines are those of its figures
 lines_printed : (p : Profile) (f : Finders) (config : Config) (column : Option ℕ)
-    → exact_table p f config column (node_limit config.nodecount 0) (unit_text p column) ≡ figures_text (figures_by p f config column)
+    → exact_table p f config column (node_limit config.presentation.nodecount 0) (unit_text p column) ≡ figures_text (figures_by p f config column)
 lines_printed p f config column =
     ap (λ lines. exact_heading (unit_text p column) ++ lines)
-    (lines_map (key_row (report_samples p f config column)) (first_report_keys p f config column (node_limit config.nodecount 0)))
+    (lines_map (key_row (report_samples p f config column)) (first_report_keys p f config column (node_limit config.presentation.nodecount 0)))
 
 scripts_grouped : {A B C : Type 0} (s : Script A) (f : A → Script B) (g : B → Script C) → scripts.◌>>=◌ (scripts.◌>>=◌ s f) g ≡ scripts.◌>>=◌ s (λ x. scripts.◌>>=◌ (f x) g)
 unfolding scripts.◌>>=◌
@@ -69,8 +69,8 @@ settled_printed : (finds : Finds) (l : Loaded) (base : Option BaseKind) (config 
     ≡ scripts.◌>>=◌ (Give (figures_settled finds l config answer)) (λ made. Give (printed_figures made))
 unfolding report_settled finish_on text_by scripts.◌>>=◌
 settled_printed finds l base config (Ok settled) =
-    let over = basis_of Table l config in
-    ap (λ (text : List ℕ). Give (Ok text)) (lines_printed over.profile (report_finders finds over Table config) config settled.showing.column)
+    let over = basis_of Table l config.presentation in
+    ap (λ (text : List ℕ). Give (Ok text)) (lines_printed over.profile (report_finders finds over Table config.filtering) config settled.showing.column)
 settled_printed finds l base config (Err refusal) = refl
 
 pub tables_print_figures : TablesPrintFigures
@@ -82,7 +82,7 @@ tables_print_figures finds l base config =
 
 -- The rows of a ranking are those of its keys.
 pub ranked_figures : (l : Loaded) (v : Verdicts) (config : Config) (column : Option ℕ) (limit : ℕ) (c : Counted) (t : Ranked) (f : Finders)
-    → IsCountedOf l v config column c → IsWholeRanking l v config column limit c t → HoldsFilters l v config f
+    → IsCountedOf l v config column c → IsWholeRanking l v config column limit c t → HoldsFilters l v config.filtering f
     → map (λ n. figure_of (row_at l.profile c.sums n)) t.order ≡ map (λ k. figure_of (key_row (report_samples l.profile f config column) k)) (first_report_keys l.profile f config column limit)
 ranked_figures l v config column limit c t f counted ranked holds =
     let samples : List (Seen Written) = report_samples l.profile f config column in
@@ -115,10 +115,10 @@ went_figures finds l config name other old new prepared result went is =
     by (inr is) whole = rw is whole
 
 -- The edges are those of the column that a table shows.
-pub has_edges : (finds : Finds) (l : Loaded) (config : Config) (shows : Showing) (edges : List FigureEdge) → showing_for Table (basis_of Table l config).profile config ≡ Ok shows
-    → HasEdgesOn finds (basis_of Table l config) config shows.column edges → HasEdges finds l config edges
+pub has_edges : (finds : Finds) (l : Loaded) (config : Config) (shows : Showing) (edges : List FigureEdge) → showing_for Table (basis_of Table l config.presentation).profile config.presentation ≡ Ok shows
+    → HasEdgesOn finds (basis_of Table l config.presentation) config shows.column edges → HasEdges finds l config edges
 has_edges finds l config shows edges is own showing also =
-    subst (λ (column : Option ℕ). HasEdgesOn finds (basis_of Table l config) config column edges) (ap column_in (sym is ∙ also)) own
+    subst (λ (column : Option ℕ). HasEdgesOn finds (basis_of Table l config.presentation) config column edges) (ap column_in (sym is ∙ also)) own
   where
     column_in : Result Showing ReportRefusal → Option ℕ
     column_in (Ok s) = s.column

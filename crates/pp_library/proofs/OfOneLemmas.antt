@@ -29,7 +29,7 @@ use Rattle.pp_library.specs.declared.countable.Countable.{Countable}
 use Rattle.pp_library.specs.declared.load_error.LoadError.{LoadError}
 use Rattle.pp_library.specs.declared.load_error.LoadError.TheVariants as errors
 use Rattle.pp_desk.specs.Asked.{Asked, value_of}
-use Rattle.pp_library.specs.Loads.{IsOfOne, profile_of, load_bytes, outcome_of}
+use Rattle.pp_library.specs.Loads.{IsOfOne, profile_of_file, load_bytes, outcome_of}
 use Rattle.pp_desk.proofs.AskedLemmas.{goes_then}
 
 -- a refusal among those that an error tells
@@ -73,8 +73,8 @@ merged_of_one : (p : Profile) → OfOne (merging (p ∷ []))
 unfolding merging
 merged_of_one p = small_of_one p (too_large (length p.sample_type) (p ∷ []))
 
-profile_of_one : (bytes : List ℕ) → OfOne (profile_of bytes)
-unfolding profile_of
+profile_of_one : (bytes : List ℕ) → OfOne (profile_of_file bytes)
+unfolding profile_of_file
 profile_of_one bytes =
     elim (nat_lt size_limit (length bytes)) as (λ long. OfOne (if long then Err (refusals.TooLong 0) else (decoded 0 bytes >>= (λ p. merging (p ∷ []))))) [
       | true ↦ (errors.TooLong, refl)
@@ -97,7 +97,7 @@ judged_of_one finds old new (Err refused) v one went = subst OfOne (sym went.1) 
 pub asked_of_one : (finds : Finds) (bytes : List ℕ) (old new : Option (List Answer)) (result : Result (Loading Loaded) Stop) → Asked old new (load_bytes finds bytes) (value_of result)
     → IfOk result (λ answer. IfErr answer IsOfOne)
 unfolding load_bytes
-asked_of_one finds bytes old new (Ok v) went = judged_of_one finds _ _ (profile_of bytes) v (profile_of_one bytes) went
+asked_of_one finds bytes old new (Ok v) went = judged_of_one finds _ _ (profile_of_file bytes) v (profile_of_one bytes) went
 asked_of_one finds bytes old new (Err stop) went = tt
 
 -- What holds of the profile that was loaded holds of the answer's.

@@ -1,6 +1,6 @@
 -- The command's loading of one file, and the loading of its bytes.
 use Rattle.std.proofs.Common.{◌≡◌, ℕ, Bool, true, false, List, [], ◌∷◌, length, inl, inr, refl, ap, ◌∙◌, subst, zero-add, if◌then◌else◌}
-use Rattle.std.specs.Prelude.{Option, Some, None, IfSome, is_some, nat_lt, Result, Ok, Err}
+use Rattle.std.specs.Prelude.{Option, Some, None, IfSome, nat_lt, Result, Ok, Err}
 use Rattle.std.specs.FinMap.{get-from_entries}
 use Rattle.std.proofs.lemmas.Cmp.{nat_list_cmp_total}
 use Rattle.pp_base.specs.FileMap.{FileMap, content_at}
@@ -38,13 +38,10 @@ use Rattle.pp_load.specs.Reads.{size_limit, bytes_found, read_path, with_verdict
 use Rattle.pp_load.specs.Sources.{nothing_read, within_size_limit, with_profile, with_bytes}
 use Rattle.pp_load.specs.Steps as steps
 use Rattle.pp_load.specs.Steps.{Loading}
-use Rattle.pp_library.specs.Loads.{BytesLoadAsFiles, profile_of, load_bytes, held_files}
+use Rattle.pp_load.proofs.AloneLemmas.{no_kind}
+use Rattle.pp_library.specs.Loads.{BytesLoadAsFiles, profile_of_file, load_bytes, held_files}
 
 -- ---- the script of a plan with one file
-
-no_kind : (kind : Option BaseKind) → is_some kind ≡ false → kind ≡ None
-no_kind None is = refl
-no_kind (Some kind) is = absurd (cc)
 
 -- what is loaded, by the parts of a plan
 loading : Finds → List Origin → List (List ℕ) → Option BaseKind → Bool → asking.Asking LoadRefusal Loaded
@@ -135,8 +132,8 @@ module _ (bytes : List ℕ) (normalize : Bool) where
   found_by false is = within_rest is
 
   -- the bytes that a read finds come to their profile
-  found_is : steps.◌>>=◌ (steps.◌>>=◌ (bytes_found 0 (content_within size_limit (Some bytes))) (with_bytes nothing_read)) (profile_read normalize) ≡ profile_of bytes
-  unfolding profile_of
+  found_is : steps.◌>>=◌ (steps.◌>>=◌ (bytes_found 0 (content_within size_limit (Some bytes))) (with_bytes nothing_read)) (profile_read normalize) ≡ profile_of_file bytes
+  unfolding profile_of_file
   found_is = found_by (nat_lt size_limit (length bytes)) refl
 
   -- what is left to do once they are found
@@ -166,7 +163,7 @@ only_verdicts finds (Err refused) = tt
 
 only_bytes : (finds : Finds) (bytes : List ℕ) → Only asks (load_bytes finds bytes)
 unfolding load_bytes
-only_bytes finds bytes = only_verdicts finds (profile_of bytes)
+only_bytes finds bytes = only_verdicts finds (profile_of_file bytes)
 
 -- a read that was stopped asked nothing
 in_part : (old new : Told) (path : List ℕ) (limit : ℕ) (stop : Stop) → InPart old new (ReadFile path limit) stop → told_by new.answers ≡ told_by old.answers

@@ -58,16 +58,17 @@ abbrev pub figures_by : Profile → Finders → Config → Option ℕ → Figure
 figures_by p f config column =
     table_with p column (total_of p f config column)
     (map (λ k. figure_of (key_row (report_samples p f config column) k))
-    (first_report_keys p f config column (node_limit config.nodecount 0)))
+    (first_report_keys p f config column (node_limit config.presentation.nodecount 0)))
 
 -- the figures of the profile that a table is made of
 abbrev pub figures_on : Finds → Loaded → Config → Option ℕ → FigureTable
-figures_on finds l config column = figures_by l.profile (report_finders finds l Table config) config column
+figures_on finds l config column =
+    figures_by l.profile (report_finders finds l Table config.filtering) config column
 
 -- the figures of what was settled, in its column
 abbrev pub figures_settled : Finds → Loaded → Config → Result Settled ReportRefusal → Result FigureTable ReportRefusal
 figures_settled finds l config (Ok settled) =
-    Ok (figures_on finds (basis_of Table l config) config settled.showing.column)
+    Ok (figures_on finds (basis_of Table l config.presentation) config settled.showing.column)
 figures_settled finds l config (Err refusal) = Err refusal
 
 -- Asks for the patterns of a table report, and gives its figures.
@@ -79,18 +80,19 @@ table_figures finds l config =
 abbrev pub HasEdgesBy : Profile → Finders → Config → Option ℕ → List FigureEdge → Type 0
 HasEdgesBy p f config column edges =
     AreRowEdges (report_samples p f config column)
-    (first_report_keys p f config column (node_limit config.nodecount 0)) edges
+    (first_report_keys p f config column (node_limit config.presentation.nodecount 0)) edges
 
 -- They are those of the profile that a table is made of.
 abbrev pub HasEdgesOn : Finds → Loaded → Config → Option ℕ → List FigureEdge → Type 0
 HasEdgesOn finds l config column edges =
-    HasEdgesBy l.profile (report_finders finds l Table config) config column edges
+    HasEdgesBy l.profile (report_finders finds l Table config.filtering) config column edges
 
 -- They are those of the loaded profile, in the column that its table shows.
 abbrev pub HasEdges : Finds → Loaded → Config → List FigureEdge → Type 0
 HasEdges finds l config edges =
-    (showing : Showing) → showing_for Table (basis_of Table l config).profile config ≡ Ok showing
-    → HasEdgesOn finds (basis_of Table l config) config showing.column edges
+    (showing : Showing) → showing_for Table
+    (basis_of Table l config.presentation).profile config.presentation ≡ Ok showing
+    → HasEdgesOn finds (basis_of Table l config.presentation) config showing.column edges
 
 -- the figures or the refusal, without edges; nothing where memory was wanting
 abbrev pub figures_outcome : Result FigureTable ReportError → Option (Result FigureTable ReportRefusal)

@@ -23,14 +23,14 @@ use Rattle.pp_library.specs.declared.load_error.LoadError.{LoadError}
 use Rattle.pp_library.specs.declared.load_error.LoadError.TheVariants as errors
 
 -- the profile of a file's bytes, decoded, checked and merged alone, or why there is none
-unfoldable pub profile_of : List ℕ → Loading Profile
-profile_of bytes =
+unfoldable pub profile_of_file : List ℕ → Loading Profile
+profile_of_file bytes =
     if nat_lt size_limit (length bytes) then Err (refusals.TooLong 0)
     else (decoded 0 bytes >>= (λ p. merging (p ∷ [])))
 
 -- Asks for the own patterns of the profile of a file's bytes, and gives it with what they find.
 unfoldable pub load_bytes : Finds → List ℕ → Asking LoadRefusal Loaded
-load_bytes finds bytes = go_on (with_verdicts finds) (profile_of bytes)
+load_bytes finds bytes = go_on (with_verdicts finds) (profile_of_file bytes)
 
 -- the refusal of the one source that the error tells; want of memory is none
 abbrev pub refusal_of : LoadError → Option LoadRefusal

@@ -10,7 +10,7 @@ ghost use Rattle.pp_library.specs.Edges.{AreRowEdges};
 ghost use Rattle.pp_library.specs.Places.{HasRowPlaces, placed_edge};
 
 use pp_base::{List, Memory, OpenGate};
-use pp_count::{Edge, Survey, edges};
+use pp_count::{Edge, Survey, recount};
 use std::alloc::Global;
 use std::thread::Threads;
 
@@ -35,13 +35,13 @@ pub fn row_edges<R: Threads + Sync>(
     requires below { All (λ n. n < length survey.now.counted.now.sums.names) order.now }
     requires once { AllPairs (λ a b. a ≢ b) order.now }
     ensures { let s = survey.now in (f : Finders) →
-        HoldsFilters s.l.now s.v.now s.config.now f →
+        HoldsFilters s.l.now s.v.now s.config.now.filtering f →
         IfOk result (AreRowEdges (report_samples s.l.now.profile f s.config.now s.column)
         (written_order s.l.now.profile s.counted.now.sums.names order.now)) }
 {
     let names = survey.counted.sums.names.len();
     let keep = kept(alloc, names, order)?;
-    let edges = edges(rt, alloc, survey, &keep, &OpenGate)?;
+    let edges = recount(rt, alloc, survey, &keep, &OpenGate)?;
     let places = places_of(alloc, names, order)?;
     placed_edges(alloc, places.as_slice(), edges.as_slice())
 }

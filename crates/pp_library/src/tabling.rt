@@ -23,7 +23,7 @@ use pp_desk::{MatcherDesk, Stop};
 use pp_grain::{Key, write_name};
 use pp_graph::{node_limit, rank_all};
 use pp_keys::HashKeys;
-use pp_model::{Config, Loaded, Profile, Report};
+use pp_model::{Config, Loaded, Presentation, Profile, Report};
 use pp_pseudo::basis;
 use pp_report::{Counts, Host, Prepared, ReportRefusal, kind_text, prepare, unit_text};
 use std::alloc::Global;
@@ -131,7 +131,8 @@ fn figures_of<R: Threads + Sync, M: Matcher>(
 ) -> Result<FigureTable, Memory>
     requires { IsPrepared M.finds l.now Table config.now prepared }
     ensures is { IfOk result (λ figures. without_edges figures
-        ≡ figures_on M.finds (basis_of Table l.now config.now) config.now prepared.shows.column) }
+        ≡ figures_on M.finds
+        (basis_of Table l.now config.now.presentation) config.now prepared.shows.column) }
     ensures edges { IfOk result (λ figures. HasEdges M.finds l.now config.now figures.edges) }
 {
     let Prepared {
@@ -197,15 +198,15 @@ fn figures_by<R: Threads + Sync>(
     survey: &Survey<'_>,
 ) -> Result<FigureTable, Memory>
     ensures is { let s = survey.now in (f : Finders) →
-        HoldsFilters s.l.now s.v.now s.config.now f →
+        HoldsFilters s.l.now s.v.now s.config.now.filtering f →
         IfOk result (λ figures. without_edges figures
         ≡ figures_by s.l.now.profile f s.config.now s.column) }
     ensures edges { let s = survey.now in (f : Finders) →
-        HoldsFilters s.l.now s.v.now s.config.now f →
+        HoldsFilters s.l.now s.v.now s.config.now.filtering f →
         IfOk result (λ figures. HasEdgesBy s.l.now.profile f s.config.now s.column figures.edges) }
 {
     let (l, counted) = (survey.l, survey.counted);
-    let limit = limit_of(survey.config);
+    let limit = limit_of(&survey.config.presentation);
     let ranked = rank_all(alloc, l, counted, survey.config, limit)?;
     let rows = rows_of(alloc, l, &counted.sums, ranked.order.as_slice())?;
     let edges = row_edges(rt, alloc, survey, ranked.order.as_slice())?;
@@ -220,10 +221,10 @@ fn figures_by<R: Threads + Sync>(
     )
 }
 
-fn limit_of(config: &Config) -> u32
-    ensures { result ≡ node_limit config.now.nodecount 0 }
+fn limit_of(presentation: &Presentation) -> u32
+    ensures { result ≡ node_limit presentation.now.nodecount 0 }
 {
-    node_limit(config.nodecount, 0)
+    node_limit(presentation.nodecount, 0)
 }
 
 // The table with these rows.

@@ -39,7 +39,7 @@ use Rattle.pp_load.specs.Steps.{unless}
 use Rattle.pp_pattern.specs.Report.{Finds}
 
 -- the bytes are read whole
-whole_read : (content : Option (List ℕ)) (bytes : List ℕ) → content ≡ Some bytes → length bytes ≤ size_limit → content_within size_limit content ≡ contents.Whole bytes
+pub whole_read : (content : Option (List ℕ)) (bytes : List ℕ) → content ≡ Some bytes → length bytes ≤ size_limit → content_within size_limit content ≡ contents.Whole bytes
 whole_read content bytes is short =
     ap (content_within size_limit) is ∙ ap (λ long. if long then contents.TooLong else contents.Whole bytes) (le-ltb size_limit (length bytes) short)
 
@@ -79,7 +79,8 @@ none_judged finds p settled =
     ap (λ asked. scripts.◌>>=◌ asked (λ answer. Give (loaded_or finds p answer))) (none_asked finds p settled)
     ∙ (λ i. Give (Ok (loaded_of p (finder_in_force finds (whole_name (settled.drop i))) (finder_in_force finds (whole_name (settled.keep i))))))
 
-no_kind : (kind : Option BaseKind) → is_some kind ≡ false → kind ≡ None
+-- a kind that is not there is none
+pub no_kind : (kind : Option BaseKind) → is_some kind ≡ false → kind ≡ None
 no_kind None is = refl
 no_kind (Some kind) is = absurd (cc)
 

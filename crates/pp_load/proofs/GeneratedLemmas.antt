@@ -22,6 +22,7 @@ use Rattle.pp_share.specs.Written.{Contents, locations, functions, mappings, tex
 use Rattle.pp_share.proofs.IdLemmas.{place_within}
 use Rattle.pp_share.proofs.NumberedLemmas.{all_mapped}
 use Rattle.pp_wire.specs.Spelling.{varint_bytes, bytes_field, packed_field}
+use Rattle.pp_wire.proofs.Briefest.{length_shortest}
 use Rattle.pp_tables.specs.Encode.{unsigned, int_field, message_fields, value_type_bytes, label_bytes, sample_bytes, mapping_bytes, line_bytes, location_bytes, function_bytes, bit, is_no_type, period_type_field, table_bytes, header_bytes, encode}
 use Rattle.pp_tables.specs.Fits.{IsInt, LabelFits, RowFits, LineFits, LocationFits, MappingFits, FunctionFits, ProfileFits}
 use Rattle.pp_tables.proofs.Numbers.{profile_fits}
@@ -37,7 +38,7 @@ use Rattle.pp_load.specs.GeneratedLoads.{GeneratedLoads, GeneratedIsSmall}
 use Rattle.pp_load.proofs.DecodeLemmas.{written_loaded}
 use Rattle.pp_load.proofs.MadeLemmas.{made_valid}
 use Rattle.pp_load.proofs.GeneratedRows.{int_fits, IsShort, FunctionKnown, LineKnown, LocationKnown, LabelKnown, SampleKnown, IsRow, IsKept, kept_known}
-use Rattle.pp_load.proofs.SpelledSizes.{joined, number_most, number_within, shortest_within, run_most, flat_within, packed_within, messages_most, messages_within}
+use Rattle.pp_load.proofs.SpelledSizes.{joined, number_most, number_within, run_most, flat_within, packed_within, messages_most, messages_within}
 
 -- ---- how long messages are at most
 
@@ -218,14 +219,14 @@ module _ (samples : ℕ) (few : samples ≤ 1000000) where
       let numbers = known.count ∷ known.time ∷ [] in
       subst (λ values. length (packed_field 2 (map unsigned values)) ≤ 12) (sym known.is)
       (packed_within 2 10 numbers (omega arith)
-      (flat_within varint_bytes 5 numbers (shortest_within 9 4 known.count (omega (arith, known.few)), (shortest_within 9 4 known.time (omega (arith, known.short)), tt))) (omega arith))
+      (flat_within varint_bytes 5 numbers (length_shortest 9 4 known.count (omega (arith, known.few)), (length_shortest 9 4 known.time (omega (arith, known.short)), tt))) (omega arith))
 
   frames_size : (s : SampleText) → SampleKnown s → length (packed_field 1 (map (location_id c) s.locations)) ≤ 11
   frames_size s known =
       let ids = map (location_id c) s.locations in
       let each : AllByRecursion (λ id. length (varint_bytes id) ≤ 1) ids =
       all_mapped (λ id. length (varint_bytes id) ≤ 1) (location_id c) s.locations
-      (every (λ l. length (varint_bytes (location_id c l)) ≤ 1) (λ l. shortest_within 9 0 (location_id c l) (omega (arith, location_small l))) s.locations) in
+      (every (λ l. length (varint_bytes (location_id c l)) ≤ 1) (λ l. length_shortest 9 0 (location_id c l) (omega (arith, location_small l))) s.locations) in
       let size : length (flat_map varint_bytes ids) ≤ 9 = omega (arith, flat_within varint_bytes 1 ids each, length-map s.locations (location_id c), known.frames) in
       packed_within 1 9 ids (omega arith) size (omega arith)
 

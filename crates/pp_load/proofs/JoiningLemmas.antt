@@ -20,7 +20,7 @@ use Rattle.pp_load.specs.declared.refusal.LoadRefusal.{LoadRefusal}
 use Rattle.pp_load.specs.declared.refusal.LoadRefusal.TheVariants as refusals
 use Rattle.pp_load.specs.Steps.{unless, Loads}
 use Rattle.pp_load.specs.Combine.{merging}
-use Rattle.pp_load.specs.Joining.{Kinds, kinds, first_kinds, AreOf, AreCountableProfiles, AreMergeable, IsOneOf, CanTakeOff, IsPair, HasStarts, halt_of}
+use Rattle.pp_load.specs.Joining.{Kinds, kinds, first_kinds, AreOf, AreCountableProfiles, AreMergeable, IsOneOf, CanTakeOff, CanTakeOffOne, HasStarts, halt_of}
 use Rattle.pp_load.proofs.KindLemmas.{kinds_agree, agreed_kinds, none_disagree, nothing_found}
 use Rattle.pp_load.proofs.CountLemmas.{as_many, merged_is_one, normalized_countable}
 
@@ -133,7 +133,7 @@ merge_halts list e h can is same = subst (λ k. Loads (merging list) (Err k)) (s
 pub ruleset joins = (merge_gives, merge_one, merge_halts)
 
 -- the base that the bases were merged to can be taken off
-pub pair_of : (source base : Profile) (bases : List Profile) → CanTakeOff source bases → IsOneOf bases base → IsPair source base
+pub pair_of : (source base : Profile) (bases : List Profile) → CanTakeOff source bases → IsOneOf bases base → CanTakeOffOne source base
 pair_of source base bases can one = record {
   source_countable = can.countable;
   base_countable = one.ready.countable;
@@ -144,7 +144,7 @@ pair_of source base bases can one = record {
 }
 
 -- and so it can where the source was scaled
-pub scaled_pair : (source base : Profile) → IsPair source base → IsPair (normalized source base) base
+pub scaled_pair : (source base : Profile) → CanTakeOffOne source base → CanTakeOffOne (normalized source base) base
 scaled_pair source base pair = record {
   source_countable = normalized_countable source base pair.source_countable pair.base_countable pair.of_kinds;
   base_countable = pair.base_countable;
@@ -155,7 +155,7 @@ scaled_pair source base pair = record {
 }
 
 -- the two agree
-pub pair_agrees : (source base : Profile) → IsPair source base → difference source base ≡ None
+pub pair_agrees : (source base : Profile) → CanTakeOffOne source base → difference source base ≡ None
 pair_agrees source base pair = kinds_agree source base (sym pair.of_kinds)
 
 -- what is needed where a source is scaled
@@ -167,7 +167,7 @@ negated_starts Base p starts = starts
 negated_starts DiffBase p starts = starts
 
 -- the source and the negated base can be merged
-pub pair_joins : (kind : BaseKind) (source base : Profile) → NoRuleFails source → NoRuleFails base → IsPair source base → AreMergeable (source ∷ negated kind base ∷ [])
+pub pair_joins : (kind : BaseKind) (source base : Profile) → NoRuleFails source → NoRuleFails base → CanTakeOffOne source base → AreMergeable (source ∷ negated kind base ∷ [])
 pair_joins kind source base valid base_valid pair =
     let negative = negated kind base in
     let own : kinds negative ≡ kinds base = agreed_kinds base negative (negated_agrees kind base base base_valid ∙ kinds_agree base base refl) in

@@ -2,32 +2,16 @@
 use Rattle.std.proofs.Common.{◌≡◌, ℕ, zero, suc, ◌+◌, ◌*◌, ◌/◌, ◌^◌, ◌<◌, ◌≤◌, Bool, true, false, List, [], ◌∷◌, ◌++◌, length, inl, inr, refl, arith}
 use Rattle.std.specs.Prelude.{◌==◌, if◌then◌else◌}
 use Rattle.std.specs.List.{AllByRecursion, flat_map}
-use Rattle.std.proofs.Math.Nat.{pow-suc}
-use Rattle.std.proofs.lemmas.Nat.{div_below}
 use Rattle.std.proofs.lemmas.Bool.{cases_lt}
 use Rattle.std.proofs.lemmas.List.{length-append}
 use Rattle.pp_wire.specs.Spelling.{shortest, varint_bytes, tag_bytes, number_field, bytes_field, packed_field}
+use Rattle.pp_wire.proofs.Briefest.{length_shortest}
 use Rattle.pp_wire.proofs.Shortest.{all_groups, last_group, next_group}
 use Rattle.pp_tables.specs.Encode.{message_fields}
 
 -- two parts are as long as both
 pub joined : (xs ys : List ℕ) (a b : ℕ) → length xs ≤ a → length ys ≤ b → length (xs ++ ys) ≤ a + b
 joined xs ys a b first second = omega (arith, length-append xs ys, first, second)
-
--- a number that this many groups can spell has no longer shortest varint
-one_longer : (more k n : ℕ) → ((j m : ℕ) → m < 128 ^ suc j → length (shortest more m) ≤ suc j) → 128 ≤ n → n < 128 ^ suc k → suc (length (shortest more (n / 128))) ≤ suc k
-one_longer more zero n fewer high below = absurd (omega arith)
-one_longer more (suc k) n fewer high below =
-    let less = div_below n 128 (128 ^ suc k) (omega arith) (rw (pow-suc 128 (suc k)) at below) in
-    omega (arith, fewer k (n / 128) less)
-
-pub shortest_within : (more k n : ℕ) → n < 128 ^ suc k → length (shortest more n) ≤ suc k
-shortest_within zero k n below = rw (all_groups n) (omega arith)
-shortest_within (suc more) k n below =
-    elim (cases_lt n 128) [
-      | inl low ↦ rw (last_group (suc more) n low) (omega arith)
-      | inr high ↦ rw (next_group (suc more) more n refl high) (one_longer more k n (shortest_within more) high below)
-    ]
 
 -- a varint has 10 bytes at most
 pub shortest_most : (more n : ℕ) → length (shortest more n) ≤ suc more
@@ -40,7 +24,7 @@ shortest_most (suc more) n =
 
 -- the tag of a field below 16 is one byte
 tag_within : (number kind : ℕ) → number < 16 → kind < 8 → length (tag_bytes number kind) ≤ 1
-tag_within number kind low few = shortest_within 9 0 (8 * number + kind) (omega (arith, low, few))
+tag_within number kind low few = length_shortest 9 0 (8 * number + kind) (omega (arith, low, few))
 
 -- a number's field, and that of a number that k + 1 groups can spell
 number_case : (b : Bool) (size : ℕ) (bytes : List ℕ) → length bytes ≤ size → length (if b then [] else bytes) ≤ size
@@ -50,7 +34,7 @@ number_case false size bytes within = within
 pub number_within : (number k n : ℕ) → number < 16 → n < 128 ^ suc k → length (number_field number n) ≤ suc (suc k)
 number_within number k n low below =
     number_case (n == 0) (suc (suc k)) (tag_bytes number 0 ++ varint_bytes n)
-    (omega (arith, length-append (tag_bytes number 0) (varint_bytes n), tag_within number 0 low (omega arith), shortest_within 9 k n below))
+    (omega (arith, length-append (tag_bytes number 0) (varint_bytes n), tag_within number 0 low (omega arith), length_shortest 9 k n below))
 
 pub number_most : (number n : ℕ) → number < 16 → length (number_field number n) ≤ 11
 number_most number n low =
@@ -61,7 +45,7 @@ number_most number n low =
 pub run_within : (number : ℕ) (bytes : List ℕ) → number < 16 → length bytes < 128 → length (bytes_field number bytes) ≤ 2 + length bytes
 run_within number bytes low few =
     joined (tag_bytes number 2 ++ varint_bytes (length bytes)) bytes 2 (length bytes)
-    (joined (tag_bytes number 2) (varint_bytes (length bytes)) 1 1 (tag_within number 2 low (omega arith)) (shortest_within 9 0 (length bytes) (omega (arith, few)))) (omega arith)
+    (joined (tag_bytes number 2) (varint_bytes (length bytes)) 1 1 (tag_within number 2 low (omega arith)) (length_shortest 9 0 (length bytes) (omega (arith, few)))) (omega arith)
 
 pub run_most : (number : ℕ) (bytes : List ℕ) → number < 16 → length (bytes_field number bytes) ≤ 11 + length bytes
 run_most number bytes low =

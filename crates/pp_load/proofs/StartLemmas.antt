@@ -40,7 +40,7 @@ use Rattle.pp_base.specs.Marks.{is_line_end}
 use Rattle.pp_base.specs.Results as results
 
 -- a number of at most 16 hexadecimal digits has 64 bits
-hex_small : (line : List ℕ) (part : ℕ × List ℕ) → hex_in line ≡ Some part → part.0 < 2 ^ 64
+pub hex_small : (line : List ℕ) (part : ℕ × List ℕ) → hex_in line ≡ Some part → part.0 < 2 ^ 64
 unfolding hex_in
 hex_small line part is = by (nat_le 1 len && nat_le len 16) refl is
   where
@@ -60,7 +60,7 @@ hex_small line part is = by (nat_le 1 len && nat_le len 16) refl is
     by false few h = absurd (none-some part h)
 
 -- what holds of each end of what goes on holds of what was found at last
-and_then_holds : {A B : Type 0} (P : B → Type 0) (f : A → Option B) (o : Option A) → ((x : A) → o ≡ Some x → (y : B) → f x ≡ Some y → P y)
+pub and_then_holds : {A B : Type 0} (P : B → Type 0) (f : A → Option B) (o : Option A) → ((x : A) → o ≡ Some x → (y : B) → f x ≡ Some y → P y)
     → (y : B) → regions.◌>>=◌ o f ≡ Some y → P y
 and_then_holds P f None each y is = absurd (none-some y is)
 and_then_holds P f (Some x) each y is = each x refl y is

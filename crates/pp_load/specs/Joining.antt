@@ -78,7 +78,7 @@ pub record CanTakeOff (source : Profile) (bases : List Profile) : Type 0 where
   pub few : length source.sample + samples_of bases < 2 ^ 32
 
 -- The base can be taken off the profile.
-pub record IsPair (source base : Profile) : Type 0 where
+pub record CanTakeOffOne (source base : Profile) : Type 0 where
   pub source_countable : IsCountable source
   pub base_countable : IsCountable base
   pub source_starts : HasStarts source

@@ -2,7 +2,7 @@
 ghost use Rattle.std.specs.Prelude.{◌≡◌, ◌+◌, ◌<◌, ◌≤◌, ◌^◌, [], ◌∷◌, Ok, take, drop, length, IfOk, IfSome, is_some, nat_lt};
 ghost use Rattle.pp_merge.specs.Scale.{negated};
 ghost use Rattle.pp_load.specs.Steps.{Loads};
-ghost use Rattle.pp_load.specs.Joining.{AreCountableProfiles, AreMergeable, IsOneOf, CanTakeOff, IsPair, IsReady, halt_of};
+ghost use Rattle.pp_load.specs.Joining.{AreCountableProfiles, AreMergeable, IsOneOf, CanTakeOff, CanTakeOffOne, IsReady, halt_of};
 ghost use Rattle.pp_load.specs.Combine.{agreeing, agreeing_with, merging, scaling_if, subtracting, less_bases, joining, combined};
 
 use crate::refusal::LoadRefusal;
@@ -169,9 +169,9 @@ fn take_off<R: Threads + Sync>(
 // The source scaled to the base, where that is asked for.
 #[tactic(auto, using(crate::proofs::JoiningLemmas::pairs), unfolding(crate::specs::Steps::Loads, crate::specs::Combine::scaling_if, crate::specs::Combine::scaling))]
 fn scale_if(wanted: bool, mut source: Compact, base: &Compact) -> Result<Compact, Halt<LoadRefusal>>
-    requires { IsPair source base.now }
+    requires { CanTakeOffOne source base.now }
     ensures is { Loads (scaling_if wanted source base.now) result }
-    ensures pair { IfOk result (λ scaled. IsPair scaled base.now) }
+    ensures pair { IfOk result (λ scaled. CanTakeOffOne scaled base.now) }
 {
     if !wanted {
         return Ok(source);
@@ -192,7 +192,7 @@ fn subtract_base(
     base: Compact,
     kind: BaseKind,
 ) -> Result<Compact, Halt<LoadRefusal>>
-    requires { IsPair source base }
+    requires { CanTakeOffOne source base }
     ensures is { Loads (merging (source ∷ negated kind base ∷ [])) result }
     ensures ready { IfOk result IsReady }
 {

@@ -66,7 +66,7 @@ fn load_plan<R: Threads + Sync, D: Desk>(
     let with = Resources {
         rt,
         alloc,
-        workers: plan.config.workers,
+        workers: plan.config.environment.workers,
         keys,
     };
     let read = read_plan(&with, plan, desk)?;

@@ -38,7 +38,7 @@ pub fn frames(alloc: Global, l: &Loaded, s: &Sample) -> Result<Stack, Memory>
     Ok(stack)
 }
 
-/// The same, in the place of what the stack held.
+/// Puts the frames of a sample, leaf first, in the place of what the stack held. `Err` is want of memory.
 pub fn frames_into(l: &Loaded, s: &Sample, stack: &mut Stack) -> Result<(), Memory>
     requires { RefersTo l.now.profile s.now }
     ensures places { IfOk result (λ _. stack.new ≡ stack_of l.now.profile s.now) }

@@ -1,4 +1,4 @@
--- Numbers of a configuration that lie in their ranges, and fractions of at most one.
+-- Numbers of variables that lie in their ranges, and fractions of at most one.
 use Rattle.std.proofs.Common.{◌≡◌, ℕ, zero, suc, ◌<◌, ◌≤◌, ◌^◌, Bool, true, false, ◌&&◌, refl, ap, sym, ◌∙◌, arith}
 use Rattle.std.specs.Prelude.{◌≤ℤ◌, ℤ, pos, negsuc, int_le, nat_le, nat_lt, Option, Some, None, option_map}
 use Rattle.std.proofs.Props.{props}
@@ -7,8 +7,10 @@ use mathlib.Core.HLevel.{is_prop→PathP}
 use mathlib.Core.Bool.{Bool-set}
 use Rattle.pp_base.specs.declared.fraction.Fraction.{Fraction}
 use Rattle.pp_model.specs.declared.config.Config.{Config}
+use Rattle.pp_model.specs.declared.presentation.Presentation.{Presentation}
+use Rattle.pp_model.specs.declared.environment.Environment.{Environment}
 use Rattle.pp_model.specs.Changes.{where_true, with_nodecount, with_divide_by, with_workers}
-use Rattle.pp_model.proofs.ConfigLemmas.{same_fraction}
+use Rattle.pp_model.proofs.ConfigLemmas.{same_fraction, same_environment}
 use Rattle.pp_options.specs.Settings.{fraction}
 
 -- where the test passes it is the value
@@ -21,50 +23,65 @@ pub fraction_is : (part : Fraction) → part ≡ fraction part.billionths
 fraction_is part =
     same_fraction _ _ (sym (ap (λ (f : Fraction). f.billionths) (where_true_is (nat_le part.billionths 1000000000) (le-leb _ _ part.at_most_one) _ _)))
 
--- a configuration with equal numbers is the same, whatever shows that they lie in their ranges
-pub renumbered :
-    (c : Config) (r r' : ℤ) (d d' w w' : ℕ) → r ≡ r' → d ≡ d' → w ≡ w'
+-- a presentation with equal numbers is the same, whatever shows that they lie in their ranges
+pub represented :
+    (s : Presentation) (r r' : ℤ) (d d' : ℕ) → r ≡ r' → d ≡ d'
     → (r_from : negsuc 0 ≤ℤ r) (r_from' : negsuc 0 ≤ℤ r') (d_from : 1 ≤ d) (d_from' : 1 ≤ d') (d_below : d < 2 ^ 63) (d_below' : d' < 2 ^ 63)
-    (w_from : 1 ≤ w) (w_from' : 1 ≤ w') (w_to : w ≤ 64) (w_to' : w' ≤ 64)
-    → ◌≡◌ {A = Config}
-    (record c { nodecount = r; divide_by = d; workers = w; nodecount_from = r_from; divisor_from = d_from; divisor_below = d_below; workers_from = w_from; workers_to = w_to })
-    (record c { nodecount = r'; divide_by = d'; workers = w'; nodecount_from = r_from'; divisor_from = d_from'; divisor_below = d_below'; workers_from = w_from'; workers_to = w_to' })
-renumbered c r r' d d' w w' er ed ew r_from r_from' d_from d_from' d_below d_below' w_from w_from' w_to w_to' = λ i. record c {
+    → ◌≡◌ {A = Presentation}
+    (record s { nodecount = r; divide_by = d; nodecount_from = r_from; divisor_from = d_from; divisor_below = d_below })
+    (record s { nodecount = r'; divide_by = d'; nodecount_from = r_from'; divisor_from = d_from'; divisor_below = d_below' })
+represented s r r' d d' er ed r_from r_from' d_from d_from' d_below d_below' = λ i. record s {
   nodecount = er i;
   divide_by = ed i;
-  workers = ew i;
   nodecount_from = is_prop→PathP (λ j. negsuc 0 ≤ℤ er j) (λ j. hlevel props) r_from r_from' i;
   divisor_from = is_prop→PathP (λ j. 1 ≤ ed j) (λ j. hlevel props) d_from d_from' i;
   divisor_below = is_prop→PathP (λ j. ed j < 2 ^ 63) (λ j. hlevel props) d_below d_below' i;
-  workers_from = is_prop→PathP (λ j. 1 ≤ ew j) (λ j. hlevel props) w_from w_from' i;
-  workers_to = is_prop→PathP (λ j. ew j ≤ 64) (λ j. hlevel props) w_to w_to' i;
 }
 
--- the configuration with a number of rows from -1 on
+-- a configuration that shows alike, whatever shows that its numbers lie in their ranges
+pub presented :
+    (c : Config) (s : Presentation)
+    (r_from : negsuc 0 ≤ℤ s.nodecount) (d_from : 1 ≤ s.divide_by) (d_below : s.divide_by < 2 ^ 63)
+    → ◌≡◌ {A = Config}
+    (record c { presentation = record s { nodecount_from = r_from; divisor_from = d_from; divisor_below = d_below } })
+    (record c { presentation = s })
+presented c s r_from d_from d_below =
+    ap (λ (shown : Presentation). record c { presentation = shown })
+    (represented s s.nodecount s.nodecount s.divide_by s.divide_by refl refl r_from s.nodecount_from d_from s.divisor_from d_below s.divisor_below)
+
+-- a configuration that lends alike, whatever shows that its workers are 1 to 64
+pub surrounded :
+    (c : Config) (e : Environment) (w_from : 1 ≤ e.workers) (w_to : e.workers ≤ 64)
+    → ◌≡◌ {A = Config}
+    (record c { environment = record e { workers_from = w_from; workers_to = w_to } })
+    (record c { environment = e })
+surrounded c e w_from w_to =
+    ap (λ (around : Environment). record c { environment = around })
+    (same_environment _ _ (record { source_path = refl; trim_path = refl; workers = refl }))
+
+-- the presentation with a number of rows from -1 on
 pub nodecount_is :
-    (c : Config) (r r' : ℤ) → r' ≡ r → int_le (negsuc 0) r ≡ true
-    → (r_from : negsuc 0 ≤ℤ r') (d_from : 1 ≤ c.divide_by) (d_below : c.divide_by < 2 ^ 63) (w_from : 1 ≤ c.workers) (w_to : c.workers ≤ 64)
-    → ◌≡◌ {A = Config} (record c { nodecount = r'; nodecount_from = r_from; divisor_from = d_from; divisor_below = d_below; workers_from = w_from; workers_to = w_to }) (with_nodecount c r)
-nodecount_is c (pos n) r' e h r_from d_from d_below w_from w_to = renumbered c r' (pos n) _ _ _ _ e refl refl _ _ _ _ _ _ _ _ _ _
-nodecount_is c (negsuc zero) r' e h r_from d_from d_below w_from w_to = renumbered c r' (negsuc 0) _ _ _ _ e refl refl _ _ _ _ _ _ _ _ _ _
-nodecount_is c (negsuc (suc n)) r' e h r_from d_from d_below w_from w_to =
+    (s : Presentation) (r r' : ℤ) → r' ≡ r → int_le (negsuc 0) r ≡ true
+    → (r_from : negsuc 0 ≤ℤ r') (d_from : 1 ≤ s.divide_by) (d_below : s.divide_by < 2 ^ 63)
+    → ◌≡◌ {A = Presentation} (record s { nodecount = r'; nodecount_from = r_from; divisor_from = d_from; divisor_below = d_below }) (with_nodecount s r)
+nodecount_is s (pos n) r' e h r_from d_from d_below = represented s r' (pos n) _ _ e refl _ _ _ _ _ _
+nodecount_is s (negsuc zero) r' e h r_from d_from d_below = represented s r' (negsuc 0) _ _ e refl _ _ _ _ _ _
+nodecount_is s (negsuc (suc n)) r' e h r_from d_from d_below =
     let below : suc n ≤ 0 = leb-true (suc n) 0 h in absurd (omega arith)
 
--- the configuration with a divisor from 1 to 2^63-1
+-- the presentation with a divisor from 1 to 2^63-1
 pub divisor_is :
-    (c : Config) (d : ℕ) → (nat_le 1 d && nat_lt d (2 ^ 63)) ≡ true
-    → (r_from : negsuc 0 ≤ℤ c.nodecount) (d_from : 1 ≤ d) (d_below : d < 2 ^ 63) (w_from : 1 ≤ c.workers) (w_to : c.workers ≤ 64)
-    → ◌≡◌ {A = Config} (record c { divide_by = d; nodecount_from = r_from; divisor_from = d_from; divisor_below = d_below; workers_from = w_from; workers_to = w_to }) (with_divide_by c d)
-divisor_is c d h r_from d_from d_below w_from w_to =
-    renumbered c _ _ d d _ _ refl refl refl _ _ _ _ _ _ _ _ _ _ ∙ sym (where_true_is _ h _ c)
+    (s : Presentation) (d : ℕ) → (nat_le 1 d && nat_lt d (2 ^ 63)) ≡ true
+    → (r_from : negsuc 0 ≤ℤ s.nodecount) (d_from : 1 ≤ d) (d_below : d < 2 ^ 63)
+    → ◌≡◌ {A = Presentation} (record s { divide_by = d; nodecount_from = r_from; divisor_from = d_from; divisor_below = d_below }) (with_divide_by s d)
+divisor_is s d h r_from d_from d_below = represented s _ _ d d refl refl _ _ _ _ _ _ ∙ sym (where_true_is _ h _ s)
 
--- the configuration with 1 to 64 workers
+-- the environment with 1 to 64 workers
 pub workers_is :
-    (c : Config) (w : ℕ) → (nat_le 1 w && nat_le w 64) ≡ true
-    → (r_from : negsuc 0 ≤ℤ c.nodecount) (d_from : 1 ≤ c.divide_by) (d_below : c.divide_by < 2 ^ 63) (w_from : 1 ≤ w) (w_to : w ≤ 64)
-    → ◌≡◌ {A = Config} (record c { workers = w; nodecount_from = r_from; divisor_from = d_from; divisor_below = d_below; workers_from = w_from; workers_to = w_to }) (with_workers c w)
-workers_is c w h r_from d_from d_below w_from w_to =
-    renumbered c _ _ _ _ w w refl refl refl _ _ _ _ _ _ _ _ _ _ ∙ sym (where_true_is _ h _ c)
+    (e : Environment) (w : ℕ) → (nat_le 1 w && nat_le w 64) ≡ true → (w_from : 1 ≤ w) (w_to : w ≤ 64)
+    → ◌≡◌ {A = Environment} (record e { workers = w; workers_from = w_from; workers_to = w_to }) (with_workers e w)
+workers_is e w h w_from w_to =
+    same_environment _ _ (record { source_path = refl; trim_path = refl; workers = refl }) ∙ sym (where_true_is _ h _ e)
 
 -- a fraction is known by its billionths
 pub read_fraction_is :

@@ -3,11 +3,12 @@ use Rattle.std.specs.Prelude.{ℕ, ◌+◌, ◌==◌, Bool, true, false, List, [
 use Rattle.std.specs.Fmt.{signed_decimal}
 use Rattle.std.specs.List.{flat_map}
 use Rattle.pp_base.specs.declared.fraction.Fraction.{Fraction as BaseFraction}
-use Rattle.pp_model.specs.declared.config.Sort.{Sort as Order}
-use Rattle.pp_model.specs.declared.config.Sort.TheVariants.{Flat, Cum}
-use Rattle.pp_model.specs.declared.config.Grain.{Grain}
-use Rattle.pp_model.specs.declared.config.Grain.TheVariants.{Functions, FileFunctions, Files, Lines, Addresses}
+use Rattle.pp_model.specs.declared.presentation.Sort.{Sort as Order}
+use Rattle.pp_model.specs.declared.presentation.Sort.TheVariants.{Flat, Cum}
+use Rattle.pp_model.specs.declared.grouping.Grain.{Grain}
+use Rattle.pp_model.specs.declared.grouping.Grain.TheVariants.{Functions, FileFunctions, Files, Lines, Addresses}
 use Rattle.pp_model.specs.declared.config.Config.{Config}
+use Rattle.pp_model.specs.declared.presentation.Presentation.{Presentation}
 use Rattle.pp_options.specs.declared.table.Row.TheVariants as rows
 use Rattle.pp_options.specs.declared.variable.TheConstants.{VARIABLES}
 use Rattle.pp_options.specs.declared.variable.FlagVariable.{FlagVariable}
@@ -61,45 +62,45 @@ fraction_text part =
 
 -- a flag of the configuration
 abbrev pub flag_in : Config → FlagVariable → Bool
-flag_in c flags.Noinlines = c.noinlines
-flag_in c flags.Showcolumns = c.showcolumns
-flag_in c flags.PathTree = c.path_tree
-flag_in c flags.RelativePercentages = c.relative_percentages
+flag_in c flags.Noinlines = c.grouping.noinlines
+flag_in c flags.Showcolumns = c.grouping.showcolumns
+flag_in c flags.PathTree = c.presentation.path_tree
+flag_in c flags.RelativePercentages = c.presentation.relative_percentages
 
--- a least part of the total, of the configuration
-abbrev pub fraction_in : Config → FractionVariable → BaseFraction
-fraction_in c fractions.Nodefraction = c.nodefraction
-fraction_in c fractions.Edgefraction = c.edgefraction
+-- a least part of the total
+abbrev pub fraction_in : Presentation → FractionVariable → BaseFraction
+fraction_in shown fractions.Nodefraction = shown.nodefraction
+fraction_in shown fractions.Edgefraction = shown.edgefraction
 
 -- a text of the configuration
 abbrev pub text_in : Config → TextVariable → List ℕ
-text_in c texts.Focus = c.focus
-text_in c texts.Ignore = c.ignore
-text_in c texts.Show = c.show
-text_in c texts.Hide = c.hide
-text_in c texts.ShowFrom = c.show_from
-text_in c texts.PruneFrom = c.prune_from
-text_in c texts.Tagfocus = c.tagfocus
-text_in c texts.Tagignore = c.tagignore
-text_in c texts.Tagshow = c.tagshow
-text_in c texts.Taghide = c.taghide
-text_in c texts.Tagroot = c.tagroot
-text_in c texts.Tagleaf = c.tagleaf
-text_in c texts.SampleIndex = c.sample_index
-text_in c texts.Unit = c.unit
-text_in c texts.SourcePath = c.source_path
-text_in c texts.TrimPath = c.trim_path
+text_in c texts.Focus = c.filtering.focus
+text_in c texts.Ignore = c.filtering.ignore
+text_in c texts.Show = c.filtering.show
+text_in c texts.Hide = c.filtering.hide
+text_in c texts.ShowFrom = c.filtering.show_from
+text_in c texts.PruneFrom = c.filtering.prune_from
+text_in c texts.Tagfocus = c.filtering.tagfocus
+text_in c texts.Tagignore = c.filtering.tagignore
+text_in c texts.Tagshow = c.filtering.tagshow
+text_in c texts.Taghide = c.filtering.taghide
+text_in c texts.Tagroot = c.presentation.tagroot
+text_in c texts.Tagleaf = c.presentation.tagleaf
+text_in c texts.SampleIndex = c.presentation.sample_index
+text_in c texts.Unit = c.presentation.unit
+text_in c texts.SourcePath = c.environment.source_path
+text_in c texts.TrimPath = c.environment.trim_path
 
 -- how a variable's value is printed
 abbrev pub variable_text : Config → Variable → List ℕ
-variable_text c Sort = sort_text c.sort
-variable_text c Granularity = grain_text c.grain
+variable_text c Sort = sort_text c.presentation.sort
+variable_text c Granularity = grain_text c.grouping.grain
 variable_text c (Flag which) = truth_text (flag_in c which)
-variable_text c Nodecount = signed_decimal c.nodecount
-variable_text c (Fraction which) = fraction_text (fraction_in c which)
+variable_text c Nodecount = signed_decimal c.presentation.nodecount
+variable_text c (Fraction which) = fraction_text (fraction_in c.presentation which)
 variable_text c (Text which) = text_in c which
-variable_text c DivideBy = decimal c.divide_by
-variable_text c Workers = decimal c.workers
+variable_text c DivideBy = decimal c.presentation.divide_by
+variable_text c Workers = decimal c.environment.workers
 
 -- a line `NAME=VALUE` for an option, and nothing for another row
 abbrev pub option_line : Config → TableRow Variable → List ℕ

@@ -1,10 +1,10 @@
 -- The names of the options and their values, and the list of the defaults, in plain texts.
 use Rattle.std.specs.Prelude.{ℕ, Bool, true, false, List, [], ◌∷◌, ◌++◌, map, codes}
 use Rattle.std.specs.List.{filter_map, flat_map}
-use Rattle.pp_model.specs.declared.config.Grain.{Grain}
-use Rattle.pp_model.specs.declared.config.Grain.TheVariants as grains
-use Rattle.pp_model.specs.declared.config.Sort.{Sort as Order}
-use Rattle.pp_model.specs.declared.config.Sort.TheVariants as orders
+use Rattle.pp_model.specs.declared.grouping.Grain.{Grain}
+use Rattle.pp_model.specs.declared.grouping.Grain.TheVariants as grains
+use Rattle.pp_model.specs.declared.presentation.Sort.{Sort as Order}
+use Rattle.pp_model.specs.declared.presentation.Sort.TheVariants as orders
 use Rattle.pp_model.specs.declared.report.BaseKind.TheVariants as bases
 use Rattle.pp_options.specs.declared.format.FlagFormat.TheVariants as reports
 use Rattle.pp_options.specs.declared.format.Format.{Format}

@@ -3,6 +3,7 @@ use Rattle.std.specs.Prelude.{ℕ, ◌^◌, negsuc, int_le, Bool, true, false, �
 use Rattle.std.proofs.Common.{lit≤}
 use Rattle.pp_base.specs.declared.fraction.Fraction.{Fraction as BaseFraction}
 use Rattle.pp_model.specs.declared.config.Config.{Config}
+use Rattle.pp_model.specs.declared.presentation.Presentation.{Presentation}
 use Rattle.pp_model.specs.Changes.{with_nodecount, with_divide_by, with_workers, fraction_or}
 use Rattle.pp_units.specs.Fractions.{fraction_of}
 use Rattle.pp_options.specs.declared.variable.FlagVariable.{FlagVariable}
@@ -55,42 +56,50 @@ is_fitting setting = true
 
 -- the flag turned on or off
 abbrev pub with_flag : Config → FlagVariable → Bool → Config
-with_flag c flags.Noinlines on = record c { noinlines = on }
-with_flag c flags.Showcolumns on = record c { showcolumns = on }
-with_flag c flags.PathTree on = record c { path_tree = on }
-with_flag c flags.RelativePercentages on = record c { relative_percentages = on }
+with_flag c flags.Noinlines on = record c { grouping = record c.grouping { noinlines = on } }
+with_flag c flags.Showcolumns on = record c { grouping = record c.grouping { showcolumns = on } }
+with_flag c flags.PathTree on = record c { presentation = record c.presentation { path_tree = on } }
+with_flag c flags.RelativePercentages on =
+    record c { presentation = record c.presentation { relative_percentages = on } }
 
 -- another least part of the total
-abbrev pub with_fraction : Config → FractionVariable → BaseFraction → Config
-with_fraction c fractions.Nodefraction part = record c { nodefraction = part }
-with_fraction c fractions.Edgefraction part = record c { edgefraction = part }
+abbrev pub with_fraction : Presentation → FractionVariable → BaseFraction → Presentation
+with_fraction shown fractions.Nodefraction part = record shown { nodefraction = part }
+with_fraction shown fractions.Edgefraction part = record shown { edgefraction = part }
 
 -- another text
 abbrev pub with_text : Config → TextVariable → List ℕ → Config
-with_text c texts.Focus text = record c { focus = text }
-with_text c texts.Ignore text = record c { ignore = text }
-with_text c texts.Show text = record c { show = text }
-with_text c texts.Hide text = record c { hide = text }
-with_text c texts.ShowFrom text = record c { show_from = text }
-with_text c texts.PruneFrom text = record c { prune_from = text }
-with_text c texts.Tagfocus text = record c { tagfocus = text }
-with_text c texts.Tagignore text = record c { tagignore = text }
-with_text c texts.Tagshow text = record c { tagshow = text }
-with_text c texts.Taghide text = record c { taghide = text }
-with_text c texts.Tagroot text = record c { tagroot = text }
-with_text c texts.Tagleaf text = record c { tagleaf = text }
-with_text c texts.SampleIndex text = record c { sample_index = text }
-with_text c texts.Unit text = record c { unit = text }
-with_text c texts.SourcePath text = record c { source_path = text }
-with_text c texts.TrimPath text = record c { trim_path = text }
+with_text c texts.Focus text = record c { filtering = record c.filtering { focus = text } }
+with_text c texts.Ignore text = record c { filtering = record c.filtering { ignore = text } }
+with_text c texts.Show text = record c { filtering = record c.filtering { show = text } }
+with_text c texts.Hide text = record c { filtering = record c.filtering { hide = text } }
+with_text c texts.ShowFrom text = record c { filtering = record c.filtering { show_from = text } }
+with_text c texts.PruneFrom text = record c { filtering = record c.filtering { prune_from = text } }
+with_text c texts.Tagfocus text = record c { filtering = record c.filtering { tagfocus = text } }
+with_text c texts.Tagignore text = record c { filtering = record c.filtering { tagignore = text } }
+with_text c texts.Tagshow text = record c { filtering = record c.filtering { tagshow = text } }
+with_text c texts.Taghide text = record c { filtering = record c.filtering { taghide = text } }
+with_text c texts.Tagroot text =
+    record c { presentation = record c.presentation { tagroot = text } }
+with_text c texts.Tagleaf text =
+    record c { presentation = record c.presentation { tagleaf = text } }
+with_text c texts.SampleIndex text =
+    record c { presentation = record c.presentation { sample_index = text } }
+with_text c texts.Unit text = record c { presentation = record c.presentation { unit = text } }
+with_text c texts.SourcePath text =
+    record c { environment = record c.environment { source_path = text } }
+with_text c texts.TrimPath text =
+    record c { environment = record c.environment { trim_path = text } }
 
 -- the configuration in which the variable has the value, and all others are as they were
 unfoldable pub assigned : Config → Setting → Config
-assigned c (set.Sort order) = record c { sort = order }
-assigned c (set.Granularity grain) = record c { grain = grain }
+assigned c (set.Sort order) = record c { presentation = record c.presentation { sort = order } }
+assigned c (set.Granularity grain) = record c { grouping = record c.grouping { grain = grain } }
 assigned c (set.Flag which on) = with_flag c which on
-assigned c (set.Nodecount rows) = with_nodecount c rows
-assigned c (set.Fraction which part) = with_fraction c which part
+assigned c (set.Nodecount rows) = record c { presentation = with_nodecount c.presentation rows }
+assigned c (set.Fraction which part) =
+    record c { presentation = with_fraction c.presentation which part }
 assigned c (set.Text which text) = with_text c which text
-assigned c (set.DivideBy divisor) = with_divide_by c divisor
-assigned c (set.Workers workers) = with_workers c workers
+assigned c (set.DivideBy divisor) =
+    record c { presentation = with_divide_by c.presentation divisor }
+assigned c (set.Workers workers) = record c { environment = with_workers c.environment workers }

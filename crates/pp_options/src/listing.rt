@@ -11,7 +11,7 @@ use crate::variable::VARIABLES;
 use crate::{FlagVariable, FractionVariable, TextVariable, Variable};
 use itoa::Buffer;
 use pp_base::{Fraction, Memory, Text, whole_or_nothing};
-use pp_model::{Config, Grain, Sort};
+use pp_model::{Config, Grain, Presentation, Sort};
 
 /// Appends a line of the form `NAME=VALUE` for each variable, in the order of `VARIABLES`.
 #[tactic(auto, unfolding(crate::specs::Listing::options_text))]
@@ -55,14 +55,14 @@ fn put_value(config: &Config, variable: Variable, out: &mut Text) -> Result<(), 
     ensures err { OnErr result (out.new ≡ out.old) }
 {
     match variable {
-        Variable::Sort => out.extend(sort_text(config.sort)),
-        Variable::Granularity => out.extend(grain_text(config.grain)),
+        Variable::Sort => out.extend(sort_text(config.presentation.sort)),
+        Variable::Granularity => out.extend(grain_text(config.grouping.grain)),
         Variable::Flag(which) => out.extend(truth_text(flag_in(config, which))),
-        Variable::Nodecount => put_rows(config.nodecount, out),
-        Variable::Fraction(which) => put_fraction(fraction_in(config, which), out),
+        Variable::Nodecount => put_rows(config.presentation.nodecount, out),
+        Variable::Fraction(which) => put_fraction(fraction_in(&config.presentation, which), out),
         Variable::Text(which) => out.extend(text_in(config, which).as_slice()),
-        Variable::DivideBy => put_number(config.divide_by, out),
-        Variable::Workers => put_number(u64::from(config.workers), out),
+        Variable::DivideBy => put_number(config.presentation.divide_by, out),
+        Variable::Workers => put_number(u64::from(config.environment.workers), out),
     }
 }
 
@@ -161,19 +161,19 @@ fn flag_in(config: &Config, which: FlagVariable) -> bool
     ensures { result ≡ flag_in config.now which }
 {
     match which {
-        FlagVariable::Noinlines => config.noinlines,
-        FlagVariable::Showcolumns => config.showcolumns,
-        FlagVariable::PathTree => config.path_tree,
-        FlagVariable::RelativePercentages => config.relative_percentages,
+        FlagVariable::Noinlines => config.grouping.noinlines,
+        FlagVariable::Showcolumns => config.grouping.showcolumns,
+        FlagVariable::PathTree => config.presentation.path_tree,
+        FlagVariable::RelativePercentages => config.presentation.relative_percentages,
     }
 }
 
-fn fraction_in(config: &Config, which: FractionVariable) -> Fraction
-    ensures { result ≡ fraction_in config.now which }
+fn fraction_in(shown: &Presentation, which: FractionVariable) -> Fraction
+    ensures { result ≡ fraction_in shown.now which }
 {
     match which {
-        FractionVariable::Nodefraction => config.nodefraction,
-        FractionVariable::Edgefraction => config.edgefraction,
+        FractionVariable::Nodefraction => shown.nodefraction,
+        FractionVariable::Edgefraction => shown.edgefraction,
     }
 }
 
@@ -181,21 +181,21 @@ fn text_in(config: &Config, which: TextVariable) -> &Text
     ensures { result.now ≡ text_in config.now which }
 {
     match which {
-        TextVariable::Focus => &config.focus,
-        TextVariable::Ignore => &config.ignore,
-        TextVariable::Show => &config.show,
-        TextVariable::Hide => &config.hide,
-        TextVariable::ShowFrom => &config.show_from,
-        TextVariable::PruneFrom => &config.prune_from,
-        TextVariable::Tagfocus => &config.tagfocus,
-        TextVariable::Tagignore => &config.tagignore,
-        TextVariable::Tagshow => &config.tagshow,
-        TextVariable::Taghide => &config.taghide,
-        TextVariable::Tagroot => &config.tagroot,
-        TextVariable::Tagleaf => &config.tagleaf,
-        TextVariable::SampleIndex => &config.sample_index,
-        TextVariable::Unit => &config.unit,
-        TextVariable::SourcePath => &config.source_path,
-        TextVariable::TrimPath => &config.trim_path,
+        TextVariable::Focus => &config.filtering.focus,
+        TextVariable::Ignore => &config.filtering.ignore,
+        TextVariable::Show => &config.filtering.show,
+        TextVariable::Hide => &config.filtering.hide,
+        TextVariable::ShowFrom => &config.filtering.show_from,
+        TextVariable::PruneFrom => &config.filtering.prune_from,
+        TextVariable::Tagfocus => &config.filtering.tagfocus,
+        TextVariable::Tagignore => &config.filtering.tagignore,
+        TextVariable::Tagshow => &config.filtering.tagshow,
+        TextVariable::Taghide => &config.filtering.taghide,
+        TextVariable::Tagroot => &config.presentation.tagroot,
+        TextVariable::Tagleaf => &config.presentation.tagleaf,
+        TextVariable::SampleIndex => &config.presentation.sample_index,
+        TextVariable::Unit => &config.presentation.unit,
+        TextVariable::SourcePath => &config.environment.source_path,
+        TextVariable::TrimPath => &config.environment.trim_path,
     }
 }

@@ -8,7 +8,7 @@ use crate::text::is;
 use crate::value::{grain_named, nodecount_of, sort_named, truth_of, whole_number};
 use crate::{FlagVariable, FractionVariable, TextVariable, Variable};
 use pp_base::{Fraction, Memory, Text};
-use pp_model::{Config, Grain, Sort};
+use pp_model::{Config, Grain, Presentation, Sort};
 use pp_units::read_fraction;
 use std::alloc::Global;
 
@@ -94,14 +94,14 @@ impl Setting {
         ensures { config.new ≡ assigned config.old self }
     {
         match self {
-            Setting::Sort(sort) => config.sort = sort,
-            Setting::Granularity(grain) => config.grain = grain,
+            Setting::Sort(sort) => config.presentation.sort = sort,
+            Setting::Granularity(grain) => config.grouping.grain = grain,
             Setting::Flag(which, on) => put_flag(config, which, on),
-            Setting::Nodecount(rows) => config.nodecount = rows,
-            Setting::Fraction(which, part) => put_fraction(config, which, part),
+            Setting::Nodecount(rows) => config.presentation.nodecount = rows,
+            Setting::Fraction(which, part) => put_fraction(&mut config.presentation, which, part),
             Setting::Text(which, text) => put_text(config, which, text),
-            Setting::DivideBy(divisor) => config.divide_by = divisor,
-            Setting::Workers(workers) => config.workers = workers,
+            Setting::DivideBy(divisor) => config.presentation.divide_by = divisor,
+            Setting::Workers(workers) => config.environment.workers = workers,
         }
     }
 }
@@ -110,19 +110,19 @@ fn put_flag(config: &mut Config, which: FlagVariable, on: bool)
     ensures { config.new ≡ with_flag config.old which on }
 {
     match which {
-        FlagVariable::Noinlines => config.noinlines = on,
-        FlagVariable::Showcolumns => config.showcolumns = on,
-        FlagVariable::PathTree => config.path_tree = on,
-        FlagVariable::RelativePercentages => config.relative_percentages = on,
+        FlagVariable::Noinlines => config.grouping.noinlines = on,
+        FlagVariable::Showcolumns => config.grouping.showcolumns = on,
+        FlagVariable::PathTree => config.presentation.path_tree = on,
+        FlagVariable::RelativePercentages => config.presentation.relative_percentages = on,
     }
 }
 
-fn put_fraction(config: &mut Config, which: FractionVariable, part: Fraction)
-    ensures { config.new ≡ with_fraction config.old which part }
+fn put_fraction(shown: &mut Presentation, which: FractionVariable, part: Fraction)
+    ensures { shown.new ≡ with_fraction shown.old which part }
 {
     match which {
-        FractionVariable::Nodefraction => config.nodefraction = part,
-        FractionVariable::Edgefraction => config.edgefraction = part,
+        FractionVariable::Nodefraction => shown.nodefraction = part,
+        FractionVariable::Edgefraction => shown.edgefraction = part,
     }
 }
 
@@ -130,21 +130,21 @@ fn put_text(config: &mut Config, which: TextVariable, text: Text)
     ensures { config.new ≡ with_text config.old which text }
 {
     match which {
-        TextVariable::Focus => config.focus = text,
-        TextVariable::Ignore => config.ignore = text,
-        TextVariable::Show => config.show = text,
-        TextVariable::Hide => config.hide = text,
-        TextVariable::ShowFrom => config.show_from = text,
-        TextVariable::PruneFrom => config.prune_from = text,
-        TextVariable::Tagfocus => config.tagfocus = text,
-        TextVariable::Tagignore => config.tagignore = text,
-        TextVariable::Tagshow => config.tagshow = text,
-        TextVariable::Taghide => config.taghide = text,
-        TextVariable::Tagroot => config.tagroot = text,
-        TextVariable::Tagleaf => config.tagleaf = text,
-        TextVariable::SampleIndex => config.sample_index = text,
-        TextVariable::Unit => config.unit = text,
-        TextVariable::SourcePath => config.source_path = text,
-        TextVariable::TrimPath => config.trim_path = text,
+        TextVariable::Focus => config.filtering.focus = text,
+        TextVariable::Ignore => config.filtering.ignore = text,
+        TextVariable::Show => config.filtering.show = text,
+        TextVariable::Hide => config.filtering.hide = text,
+        TextVariable::ShowFrom => config.filtering.show_from = text,
+        TextVariable::PruneFrom => config.filtering.prune_from = text,
+        TextVariable::Tagfocus => config.filtering.tagfocus = text,
+        TextVariable::Tagignore => config.filtering.tagignore = text,
+        TextVariable::Tagshow => config.filtering.tagshow = text,
+        TextVariable::Taghide => config.filtering.taghide = text,
+        TextVariable::Tagroot => config.presentation.tagroot = text,
+        TextVariable::Tagleaf => config.presentation.tagleaf = text,
+        TextVariable::SampleIndex => config.presentation.sample_index = text,
+        TextVariable::Unit => config.presentation.unit = text,
+        TextVariable::SourcePath => config.environment.source_path = text,
+        TextVariable::TrimPath => config.environment.trim_path = text,
     }
 }

@@ -4,10 +4,10 @@ use Rattle.std.specs.Prelude.{Result, Ok, Err, unwrap_or}
 use Rattle.pp_desk.specs.Asking.{Asking, ◌>>=◌, go_on}
 use Rattle.pp_desk.specs.Script.{Step, Ask}
 use Rattle.pp_desk.proofs.Quiet.{Only, only_then}
-use Rattle.pp_model.specs.declared.config.Config.{Config}
 use Rattle.pp_model.specs.declared.profile.Profile.{Profile}
 use Rattle.pp_model.specs.declared.verdicts.Slot.{Slot}
 use Rattle.pp_model.specs.declared.verdicts.Tag.{Tag}
+use Rattle.pp_model.specs.declared.filtering.Filtering.{Filtering}
 use Rattle.pp_model.specs.Lookup.{text_of}
 use Rattle.pp_pattern.specs.Load.{judge_load, whole_name}
 use Rattle.pp_pattern.specs.Patterns.{judge_pattern, judge_option, judge_part, judge_parts}
@@ -52,14 +52,14 @@ module _ (test : Step → Bool) where
         only_asking (judge_option finds _ p.text (whole_name (text_of p p.drop_frames))) _ (only_option _ p.text (whole_name (text_of p p.drop_frames)))
         (λ drop. only_asking (judge_option finds _ p.text (whole_name (text_of p p.keep_frames))) _ (only_option _ p.text (whole_name (text_of p p.keep_frames))) (λ keep. tt))
 
-    only_frames : (config : Config) (texts : List (List ℕ)) → Only test (judge_frames finds config texts)
+    only_frames : (filtering : Filtering) (texts : List (List ℕ)) → Only test (judge_frames finds filtering texts)
     unfolding judge_frames
-    only_frames config texts =
-        only_asking (judge_option finds _ texts config.focus) _ (only_option _ texts config.focus)
-        (λ _. only_asking (judge_option finds _ texts config.ignore) _ (only_option _ texts config.ignore)
-        (λ _. only_asking (judge_option finds _ texts config.hide) _ (only_option _ texts config.hide)
-        (λ _. only_asking (judge_option finds _ texts config.show) _ (only_option _ texts config.show)
-        (λ _. only_asking (judge_option finds _ texts config.show_from) _ (only_option _ texts config.show_from) (λ _. tt)))))
+    only_frames filtering texts =
+        only_asking (judge_option finds _ texts filtering.focus) _ (only_option _ texts filtering.focus)
+        (λ _. only_asking (judge_option finds _ texts filtering.ignore) _ (only_option _ texts filtering.ignore)
+        (λ _. only_asking (judge_option finds _ texts filtering.hide) _ (only_option _ texts filtering.hide)
+        (λ _. only_asking (judge_option finds _ texts filtering.show) _ (only_option _ texts filtering.show)
+        (λ _. only_asking (judge_option finds _ texts filtering.show_from) _ (only_option _ texts filtering.show_from) (λ _. tt)))))
 
     only_filter : (slot : Slot) (p : Profile) (tags : List Tag) (filter : Option TagFilter) → Only test (judge_filter finds slot p tags filter)
     unfolding judge_filter
@@ -72,21 +72,21 @@ module _ (test : Step → Bool) where
         only_asking (judge_filter finds _ p _ focus) _ (only_filter _ p _ focus)
         (λ _. only_asking (judge_filter finds _ p _ ignore) _ (only_filter _ p _ ignore) (λ _. tt))
 
-    only_names : (config : Config) (own : Option (List ℕ)) (texts : List (List ℕ)) → Only test (judge_names finds config own texts)
+    only_names : (filtering : Filtering) (own : Option (List ℕ)) (texts : List (List ℕ)) → Only test (judge_names finds filtering own texts)
     unfolding judge_names
-    only_names config own texts =
-        only_asking (judge_option finds _ texts config.prune_from) _ (only_option _ texts config.prune_from)
-        (λ _. only_asking (judge_option finds _ texts config.tagshow) _ (only_option _ texts config.tagshow)
-        (λ _. only_asking (judge_option finds _ texts config.taghide) _ (only_option _ texts config.taghide)
+    only_names filtering own texts =
+        only_asking (judge_option finds _ texts filtering.prune_from) _ (only_option _ texts filtering.prune_from)
+        (λ _. only_asking (judge_option finds _ texts filtering.tagshow) _ (only_option _ texts filtering.tagshow)
+        (λ _. only_asking (judge_option finds _ texts filtering.taghide) _ (only_option _ texts filtering.taghide)
         (λ _. only_asking (judge_option finds _ texts (unwrap_or own [])) _ (only_option _ texts (unwrap_or own [])) (λ _. tt))))
 
-    only_with : (config : Config) (own : Option (List ℕ)) (p : Profile) (focus ignore : Option TagFilter) → Only test (judge_with finds config own p focus ignore)
+    only_with : (filtering : Filtering) (own : Option (List ℕ)) (p : Profile) (focus ignore : Option TagFilter) → Only test (judge_with finds filtering own p focus ignore)
     unfolding judge_with
-    only_with config own p focus ignore =
-        only_asking (judge_frames finds config p.text) _ (only_frames config p.text)
+    only_with filtering own p focus ignore =
+        only_asking (judge_frames finds filtering p.text) _ (only_frames filtering p.text)
         (λ _. only_asking (judge_tags finds p focus ignore) _ (only_tags p focus ignore)
-        (λ _. only_asking (judge_names finds config own p.text) _ (only_names config own p.text) (λ _. tt)))
+        (λ _. only_asking (judge_names finds filtering own p.text) _ (only_names filtering own p.text) (λ _. tt)))
 
     -- All patterns of a report.
-    pub only_judge : (config : Config) (own : Option (List ℕ)) (p : Profile) → Only test (judge finds config own p)
-    only_judge config own p = only_with config own p _ _
+    pub only_judge : (filtering : Filtering) (own : Option (List ℕ)) (p : Profile) → Only test (judge finds filtering own p)
+    only_judge filtering own p = only_with filtering own p _ _

@@ -3,10 +3,10 @@ use Rattle.std.proofs.Common.{◌≡◌, ℕ, List, [], ◌∷◌, map, refl, sy
 use Rattle.std.specs.Prelude.{Option, None, Some, option_map, unwrap_or}
 use Rattle.std.proofs.lemmas.List.{length-map}
 use Rattle.std.proofs.lemmas.Simd.{map-map}
-use Rattle.pp_model.specs.declared.config.Config.{Config}
 use Rattle.pp_model.specs.declared.loaded.Loaded.{Loaded}
 use Rattle.pp_model.specs.declared.profile.Profile.{Profile}
 use Rattle.pp_model.specs.declared.verdicts.Tag.{Tag}
+use Rattle.pp_model.specs.declared.filtering.Filtering.{Filtering}
 use Rattle.pp_model.specs.Conditions.{HasOnePerText}
 use Rattle.pp_model.specs.Finders.{Finder}
 use Rattle.pp_model.specs.Judged.{judged}
@@ -48,35 +48,35 @@ has_tags_second : (p : Profile) (focus ignore : Option TagFilter) → HasItsTags
 has_tags_second p focus ignore = λ f is _. ap (tags_for p focus) is ∙ either_way p focus f
 
 -- The verdicts of a report are what its patterns find.
-pub verdicts_law : (finds : Finds) (config : Config) (own : Option (List ℕ)) (l : Loaded) →
-    AreVerdictsOf finds config own l (verdicts_of finds config own l.profile)
-verdicts_law finds config own l = record {
+pub verdicts_law : (finds : Finds) (filtering : Filtering) (own : Option (List ℕ)) (l : Loaded) →
+    AreVerdictsOf finds filtering own l (verdicts_of finds filtering own l.profile)
+verdicts_law finds filtering own l = record {
   holds = λ drop keep dropped kept. record {
     drop = dropped;
     keep = kept;
-    focus = found_is_judged l.profile (finder_in_force finds config.focus);
-    ignore = found_is_judged l.profile (finder_in_force finds config.ignore);
-    hide = found_is_judged l.profile (finder_in_force finds config.hide);
-    show = found_is_judged l.profile (finder_in_force finds config.show);
-    show_from = found_is_judged l.profile (finder_in_force finds config.show_from);
-    prune_from = found_is_judged l.profile (finder_in_force finds config.prune_from);
-    tagshow = found_is_judged l.profile (finder_in_force finds config.tagshow);
-    taghide = found_is_judged l.profile (finder_in_force finds config.taghide);
+    focus = found_is_judged l.profile (finder_in_force finds filtering.focus);
+    ignore = found_is_judged l.profile (finder_in_force finds filtering.ignore);
+    hide = found_is_judged l.profile (finder_in_force finds filtering.hide);
+    show = found_is_judged l.profile (finder_in_force finds filtering.show);
+    show_from = found_is_judged l.profile (finder_in_force finds filtering.show_from);
+    prune_from = found_is_judged l.profile (finder_in_force finds filtering.prune_from);
+    tagshow = found_is_judged l.profile (finder_in_force finds filtering.tagshow);
+    taghide = found_is_judged l.profile (finder_in_force finds filtering.taghide);
     own = found_is_judged l.profile (finder_in_force finds (unwrap_or own []));
   };
   fits = record {
-    focus = one_per_text finds l.profile config.focus;
-    ignore = one_per_text finds l.profile config.ignore;
-    hide = one_per_text finds l.profile config.hide;
-    show = one_per_text finds l.profile config.show;
-    show_from = one_per_text finds l.profile config.show_from;
-    prune_from = one_per_text finds l.profile config.prune_from;
-    tagshow = one_per_text finds l.profile config.tagshow;
-    taghide = one_per_text finds l.profile config.taghide;
+    focus = one_per_text finds l.profile filtering.focus;
+    ignore = one_per_text finds l.profile filtering.ignore;
+    hide = one_per_text finds l.profile filtering.hide;
+    show = one_per_text finds l.profile filtering.show;
+    show_from = one_per_text finds l.profile filtering.show_from;
+    prune_from = one_per_text finds l.profile filtering.prune_from;
+    tagshow = one_per_text finds l.profile filtering.tagshow;
+    taghide = one_per_text finds l.profile filtering.taghide;
     own = one_per_text finds l.profile (unwrap_or own []);
   };
-  tagfocus = are_parts finds l.profile _ (filter_in_force config.tagfocus);
-  tagignore = are_parts finds l.profile _ (filter_in_force config.tagignore);
-  focus_tags = has_tags_first l.profile (filter_in_force config.tagfocus) (filter_in_force config.tagignore);
-  ignore_tags = has_tags_second l.profile (filter_in_force config.tagfocus) (filter_in_force config.tagignore);
+  tagfocus = are_parts finds l.profile _ (filter_in_force filtering.tagfocus);
+  tagignore = are_parts finds l.profile _ (filter_in_force filtering.tagignore);
+  focus_tags = has_tags_first l.profile (filter_in_force filtering.tagfocus) (filter_in_force filtering.tagignore);
+  ignore_tags = has_tags_second l.profile (filter_in_force filtering.tagfocus) (filter_in_force filtering.tagignore);
 }

@@ -3,10 +3,10 @@ use Rattle.std.proofs.Common.{◌≡◌, true, false, [], ◌∷◌, refl}
 use Rattle.std.specs.Prelude.{pos, codes, Option, Some, None, Err}
 use Rattle.pp_base.specs.FileMap.{FileMap}
 use Rattle.pp_base.specs.Judges.{occurs_in}
-use Rattle.pp_model.specs.declared.config.Config.{Config}
+use Rattle.pp_model.specs.declared.filtering.Filtering.{Filtering}
 use Rattle.pp_model.specs.declared.profile.Profile.{Profile}
 use Rattle.pp_model.specs.declared.verdicts.Slot.TheVariants.{Hide}
-use Rattle.pp_model.specs.Defaults.{defaults}
+use Rattle.pp_model.specs.Defaults.{standard_filtering}
 use Rattle.pp_tags.specs.declared.tag_filter.TagFilter.{TagFilter}
 use Rattle.pp_desk.specs.Course.{course}
 use Rattle.pp_desk.specs.Script as scripts
@@ -36,8 +36,8 @@ p = record {
 }
 
 -- patterns in four places
-abbrev config : Config
-config = record defaults {
+abbrev filtering : Filtering
+filtering = record standard_filtering {
   focus = codes "f";
   hide = codes "h";
   prune_from = codes "p";
@@ -49,17 +49,17 @@ abbrev filter : Option TagFilter
 filter = Some (record { name = []; range = None; parts = codes "x" ∷ [] ∷ codes "y" ∷ [] })
 
 -- the patterns in the order of asking
-in_order : (files : FileMap) → (course (judge_with occurs_in config (Some (codes "o")) p filter None) files [] [] []).asked
+in_order : (files : FileMap) → (course (judge_with occurs_in filtering (Some (codes "o")) p filter None) files [] [] []).asked
     ≡ codes "f" ∷ codes "h" ∷ codes "x" ∷ codes "y" ∷ codes "p" ∷ codes "t" ∷ codes "o" ∷ []
 unfolding ◌>>=◌ scripts.◌>>=◌ judge_with judge_frames judge_tags judge_filter judge_names judge_option judge_parts judge_part judge_pattern
 in_order files = refl
 
 -- after a refusal nothing is asked, and its option is named
-refused : (files : FileMap) → (course (judge_with occurs_in config None p filter None) files [] [] ((codes "f", true) ∷ (codes "h", false) ∷ [])).value ≡ Err (slot_refused Hide)
+refused : (files : FileMap) → (course (judge_with occurs_in filtering None p filter None) files [] [] ((codes "f", true) ∷ (codes "h", false) ∷ [])).value ≡ Err (slot_refused Hide)
 unfolding ◌>>=◌ scripts.◌>>=◌ judge_with judge_frames judge_tags judge_filter judge_names judge_option judge_parts judge_part judge_pattern
 refused files = refl
 
-no_more : (files : FileMap) → (course (judge_with occurs_in config None p filter None) files [] [] ((codes "f", true) ∷ (codes "h", false) ∷ [])).asked ≡ codes "f" ∷ codes "h" ∷ []
+no_more : (files : FileMap) → (course (judge_with occurs_in filtering None p filter None) files [] [] ((codes "f", true) ∷ (codes "h", false) ∷ [])).asked ≡ codes "f" ∷ codes "h" ∷ []
 unfolding ◌>>=◌ scripts.◌>>=◌ judge_with judge_frames judge_tags judge_filter judge_names judge_option judge_parts judge_part judge_pattern
 no_more files = refl
 

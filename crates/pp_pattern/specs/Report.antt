@@ -1,13 +1,13 @@
 -- The patterns of a report: in which order they are asked, and what their verdicts are.
 use Rattle.std.specs.Option.{option_map_or}
 use Rattle.std.specs.Prelude.{◌≡◌, ℕ, Bool, List, [], map, Option, None, Some, Ok, option_map, unwrap_or}
-use Rattle.pp_model.specs.declared.config.Config.{Config}
 use Rattle.pp_model.specs.declared.profile.Profile.{Profile}
 use Rattle.pp_model.specs.declared.verdicts.Slot.{Slot}
 use Rattle.pp_model.specs.declared.verdicts.Slot.TheVariants.{Focus, Ignore, Hide, Show, ShowFrom, TagFocus, TagIgnore, PruneFrom, TagShow, TagHide, Own}
 use Rattle.pp_model.specs.declared.verdicts.Tag.{Tag}
 use Rattle.pp_model.specs.declared.verdicts.Verdicts.{Verdicts}
 use Rattle.pp_model.specs.declared.loaded.Loaded.{Loaded}
+use Rattle.pp_model.specs.declared.filtering.Filtering.{Filtering}
 use Rattle.pp_model.specs.Conditions.{HasVerdicts}
 use Rattle.pp_model.specs.Finders.{Finder, Finders, TagFinders, HoldsFinders}
 use Rattle.pp_model.specs.Judged.{judged}
@@ -31,13 +31,14 @@ abbrev pub slot_refused : Slot → PatternRefused
 slot_refused slot = record { option = slot }
 
 -- Asks for the patterns of frames: focus, ignore, hide, show, show_from.
-unfoldable pub judge_frames : Finds → Config → List (List ℕ) → Asking PatternRefused FrameVerdicts
-judge_frames finds config texts = do
-  focus ← judge_option finds (slot_refused Focus) texts config.focus
-  ignore ← judge_option finds (slot_refused Ignore) texts config.ignore
-  hide ← judge_option finds (slot_refused Hide) texts config.hide
-  show ← judge_option finds (slot_refused Show) texts config.show
-  show_from ← judge_option finds (slot_refused ShowFrom) texts config.show_from
+unfoldable pub judge_frames : Finds → Filtering → List (List ℕ)
+    → Asking PatternRefused FrameVerdicts
+judge_frames finds filtering texts = do
+  focus ← judge_option finds (slot_refused Focus) texts filtering.focus
+  ignore ← judge_option finds (slot_refused Ignore) texts filtering.ignore
+  hide ← judge_option finds (slot_refused Hide) texts filtering.hide
+  show ← judge_option finds (slot_refused Show) texts filtering.show
+  show_from ← judge_option finds (slot_refused ShowFrom) texts filtering.show_from
   Give (Ok (record {
     focus = focus;
     ignore = ignore;
@@ -71,12 +72,12 @@ judge_tags finds p focus ignore = do
   }))
 
 -- Asks for the other patterns: prune_from, tagshow, taghide, and the report's own.
-unfoldable pub judge_names : Finds → Config → Option (List ℕ) → List (List ℕ)
+unfoldable pub judge_names : Finds → Filtering → Option (List ℕ) → List (List ℕ)
     → Asking PatternRefused NameVerdicts
-judge_names finds config own texts = do
-  prune_from ← judge_option finds (slot_refused PruneFrom) texts config.prune_from
-  tagshow ← judge_option finds (slot_refused TagShow) texts config.tagshow
-  taghide ← judge_option finds (slot_refused TagHide) texts config.taghide
+judge_names finds filtering own texts = do
+  prune_from ← judge_option finds (slot_refused PruneFrom) texts filtering.prune_from
+  tagshow ← judge_option finds (slot_refused TagShow) texts filtering.tagshow
+  taghide ← judge_option finds (slot_refused TagHide) texts filtering.taghide
   own ← judge_option finds (slot_refused Own) texts (unwrap_or own [])
   Give (Ok (record { prune_from = prune_from; tagshow = tagshow; taghide = taghide; own = own }))
 
@@ -98,18 +99,20 @@ all_verdicts frames tags names = record {
 }
 
 -- Asks for all patterns of a report with these tag filters.
-unfoldable pub judge_with : Finds → Config → Option (List ℕ) → Profile → Option TagFilter → Option TagFilter
+unfoldable pub judge_with : Finds → Filtering → Option (List ℕ) → Profile → Option TagFilter
+    → Option TagFilter
     → Asking PatternRefused Verdicts
-judge_with finds config own p focus ignore = do
-  frames ← judge_frames finds config p.text
+judge_with finds filtering own p focus ignore = do
+  frames ← judge_frames finds filtering p.text
   tags ← judge_tags finds p focus ignore
-  names ← judge_names finds config own p.text
+  names ← judge_names finds filtering own p.text
   Give (Ok (all_verdicts frames tags names))
 
 -- Asks for all patterns of a report that aren't empty. The first that is refused is named, and none is asked after it.
-abbrev pub judge : Finds → Config → Option (List ℕ) → Profile → Asking PatternRefused Verdicts
-judge finds config own p =
-    judge_with finds config own p (filter_in_force config.tagfocus) (filter_in_force config.tagignore)
+abbrev pub judge : Finds → Filtering → Option (List ℕ) → Profile → Asking PatternRefused Verdicts
+judge finds filtering own p =
+    judge_with finds filtering own p (filter_in_force filtering.tagfocus)
+    (filter_in_force filtering.tagignore)
 
 -- what the pattern of an option's value finds of the texts, where it is in force
 abbrev pub found_in : Finds → List (List ℕ) → List ℕ → Option (List Bool)
@@ -122,13 +125,13 @@ parts_found finds p tags (Some f) =
     map (λ part. map (part_finder finds part) (subjects p tags f.name)) f.parts
 
 -- the verdicts of the patterns of frames
-abbrev pub frames_found : Finds → Config → List (List ℕ) → FrameVerdicts
-frames_found finds config texts = record {
-  focus = found_in finds texts config.focus;
-  ignore = found_in finds texts config.ignore;
-  hide = found_in finds texts config.hide;
-  show = found_in finds texts config.show;
-  show_from = found_in finds texts config.show_from;
+abbrev pub frames_found : Finds → Filtering → List (List ℕ) → FrameVerdicts
+frames_found finds filtering texts = record {
+  focus = found_in finds texts filtering.focus;
+  ignore = found_in finds texts filtering.ignore;
+  hide = found_in finds texts filtering.hide;
+  show = found_in finds texts filtering.show;
+  show_from = found_in finds texts filtering.show_from;
 }
 
 -- the verdicts of the patterns of tag filters
@@ -140,56 +143,60 @@ tags_found finds p focus ignore = record {
 }
 
 -- the verdicts of the other patterns
-abbrev pub names_found : Finds → Config → Option (List ℕ) → List (List ℕ) → NameVerdicts
-names_found finds config own texts = record {
-  prune_from = found_in finds texts config.prune_from;
-  tagshow = found_in finds texts config.tagshow;
-  taghide = found_in finds texts config.taghide;
+abbrev pub names_found : Finds → Filtering → Option (List ℕ) → List (List ℕ) → NameVerdicts
+names_found finds filtering own texts = record {
+  prune_from = found_in finds texts filtering.prune_from;
+  tagshow = found_in finds texts filtering.tagshow;
+  taghide = found_in finds texts filtering.taghide;
   own = found_in finds texts (unwrap_or own []);
 }
 
 -- all verdicts of a report with these tag filters
-abbrev pub verdicts_with : Finds → Config → Option (List ℕ) → Profile → Option TagFilter → Option TagFilter → Verdicts
-verdicts_with finds config own p focus ignore =
-    all_verdicts (frames_found finds config p.text) (tags_found finds p focus ignore)
-    (names_found finds config own p.text)
+abbrev pub verdicts_with : Finds → Filtering → Option (List ℕ) → Profile → Option TagFilter
+    → Option TagFilter → Verdicts
+verdicts_with finds filtering own p focus ignore =
+    all_verdicts (frames_found finds filtering p.text) (tags_found finds p focus ignore)
+    (names_found finds filtering own p.text)
 
 -- All verdicts of a report, where no pattern is refused.
-abbrev pub verdicts_of : Finds → Config → Option (List ℕ) → Profile → Verdicts
-verdicts_of finds config own p =
-    verdicts_with finds config own p (filter_in_force config.tagfocus) (filter_in_force config.tagignore)
+abbrev pub verdicts_of : Finds → Filtering → Option (List ℕ) → Profile → Verdicts
+verdicts_of finds filtering own p =
+    verdicts_with finds filtering own p (filter_in_force filtering.tagfocus)
+    (filter_in_force filtering.tagignore)
 
 -- what the parts of a tag filter find, where it is in force
 abbrev pub filter_finders : Finds → Option TagFilter → TagFinders
 filter_finders finds filter = by_text (option_map_or (λ f. map (part_finder finds) f.parts) filter [])
 
 -- what the patterns of a report find, beside those of its profile
-abbrev pub finders_of : Finds → Config → Option (List ℕ) → Option Finder → Option Finder → Finders
-finders_of finds config own drop keep = record {
+abbrev pub finders_of : Finds → Filtering → Option (List ℕ) → Option Finder → Option Finder
+    → Finders
+finders_of finds filtering own drop keep = record {
   drop = drop;
   keep = keep;
-  focus = finder_in_force finds config.focus;
-  ignore = finder_in_force finds config.ignore;
-  hide = finder_in_force finds config.hide;
-  show = finder_in_force finds config.show;
-  show_from = finder_in_force finds config.show_from;
-  prune_from = finder_in_force finds config.prune_from;
-  tagshow = finder_in_force finds config.tagshow;
-  taghide = finder_in_force finds config.taghide;
+  focus = finder_in_force finds filtering.focus;
+  ignore = finder_in_force finds filtering.ignore;
+  hide = finder_in_force finds filtering.hide;
+  show = finder_in_force finds filtering.show;
+  show_from = finder_in_force finds filtering.show_from;
+  prune_from = finder_in_force finds filtering.prune_from;
+  tagshow = finder_in_force finds filtering.tagshow;
+  taghide = finder_in_force finds filtering.taghide;
   own = finder_in_force finds (unwrap_or own []);
-  tagfocus = filter_finders finds (filter_in_force config.tagfocus);
-  tagignore = filter_finders finds (filter_in_force config.tagignore);
+  tagfocus = filter_finders finds (filter_in_force filtering.tagfocus);
+  tagignore = filter_finders finds (filter_in_force filtering.tagignore);
 }
 
 -- What is true of the verdicts of a report, beside the profile's own two lists: they are what the patterns find, with
 -- one truth value a text; those of tag filters are what the parts find of the texts or of the profile's tags.
-pub record AreVerdictsOf (finds : Finds) (config : Config) (own : Option (List ℕ)) (l : Loaded) (v : Verdicts) : Type 0 where
+pub record AreVerdictsOf (finds : Finds) (filtering : Filtering) (own : Option (List ℕ))
+    (l : Loaded) (v : Verdicts) : Type 0 where
   pub holds : (drop keep : Option Finder) → l.drop ≡ judged l.profile drop → l.keep ≡ judged l.profile keep
-      → HoldsFinders l v (finders_of finds config own drop keep)
+      → HoldsFinders l v (finders_of finds filtering own drop keep)
   pub fits : HasVerdicts l.profile v
-  pub tagfocus : AreTagVerdicts l.profile v.tag (filter_in_force config.tagfocus)
-      (filter_finders finds (filter_in_force config.tagfocus)) v.tagfocus
-  pub tagignore : AreTagVerdicts l.profile v.tag (filter_in_force config.tagignore)
-      (filter_finders finds (filter_in_force config.tagignore)) v.tagignore
-  pub focus_tags : HasItsTags l.profile v.tag (filter_in_force config.tagfocus)
-  pub ignore_tags : HasItsTags l.profile v.tag (filter_in_force config.tagignore)
+  pub tagfocus : AreTagVerdicts l.profile v.tag (filter_in_force filtering.tagfocus)
+      (filter_finders finds (filter_in_force filtering.tagfocus)) v.tagfocus
+  pub tagignore : AreTagVerdicts l.profile v.tag (filter_in_force filtering.tagignore)
+      (filter_finders finds (filter_in_force filtering.tagignore)) v.tagignore
+  pub focus_tags : HasItsTags l.profile v.tag (filter_in_force filtering.tagfocus)
+  pub ignore_tags : HasItsTags l.profile v.tag (filter_in_force filtering.tagignore)

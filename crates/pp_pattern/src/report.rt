@@ -13,7 +13,7 @@ use crate::parts::judge_parts;
 use crate::subjects::tag_texts;
 use pp_base::{List, Memory, Text};
 use pp_desk::{Desk, Halt, Stop, settle};
-use pp_model::{Config, Loaded, Profile, Slot, Tag, Verdicts};
+use pp_model::{Filtering, Loaded, Profile, Slot, Tag, Verdicts};
 use pp_tags::{TagFilter, tags_of};
 use std::alloc::Global;
 
@@ -79,18 +79,18 @@ struct TagFilters {
 pub fn judge<D: Desk>(
     alloc: Global,
     desk: &mut D,
-    config: &Config,
+    filtering: &Filtering,
     own: Option<&Text>,
     l: &Loaded,
 ) -> Result<Result<Verdicts, PatternRefused>, Stop>
     ensures went { Went (D.world desk.old) (D.world desk.new)
-        (judge D.finds config.now (option_copied own.entry) l.now.profile) result }
+        (judge D.finds filtering.now (option_copied own.entry) l.now.profile) result }
     ensures found { IfOk result (λ judged. IfOk judged
-        (λ v. v ≡ verdicts_of D.finds config.now (option_copied own.entry) l.now.profile)) }
-    ensures law { AreVerdictsOf D.finds config.now (option_copied own.entry) l.now
-        (verdicts_of D.finds config.now (option_copied own.entry) l.now.profile) }
+        (λ v. v ≡ verdicts_of D.finds filtering.now (option_copied own.entry) l.now.profile)) }
+    ensures law { AreVerdictsOf D.finds filtering.now (option_copied own.entry) l.now
+        (verdicts_of D.finds filtering.now (option_copied own.entry) l.now.profile) }
 {
-    settle(judge_all(alloc, desk, config, own, l))
+    settle(judge_all(alloc, desk, filtering, own, l))
 }
 
 // Asks for all patterns.
@@ -98,19 +98,19 @@ pub fn judge<D: Desk>(
 fn judge_all<D: Desk>(
     alloc: Global,
     desk: &mut D,
-    config: &Config,
+    filtering: &Filtering,
     own: Option<&Text>,
     l: &Loaded,
 ) -> Result<Verdicts, Halt<PatternRefused>>
     ensures went { Went (D.world desk.old) (D.world desk.new)
-        (judge D.finds config.now (option_copied own.entry) l.now.profile) (settled result) }
+        (judge D.finds filtering.now (option_copied own.entry) l.now.profile) (settled result) }
     ensures found { IfOk result
-        (λ v. v ≡ verdicts_of D.finds config.now (option_copied own.entry) l.now.profile) }
+        (λ v. v ≡ verdicts_of D.finds filtering.now (option_copied own.entry) l.now.profile) }
 {
-    let focus = TagFilter::in_force(alloc, config.tagfocus.as_slice())?;
-    let ignore = TagFilter::in_force(alloc, config.tagignore.as_slice())?;
+    let focus = TagFilter::in_force(alloc, filtering.tagfocus.as_slice())?;
+    let ignore = TagFilter::in_force(alloc, filtering.tagignore.as_slice())?;
     let filters = TagFilters { focus, ignore };
-    judge_with(alloc, desk, config, own, l, &filters)
+    judge_with(alloc, desk, filtering, own, l, &filters)
 }
 
 // Asks for all patterns, with these tag filters.
@@ -118,21 +118,22 @@ fn judge_all<D: Desk>(
 fn judge_with<D: Desk>(
     alloc: Global,
     desk: &mut D,
-    config: &Config,
+    filtering: &Filtering,
     own: Option<&Text>,
     l: &Loaded,
     filters: &TagFilters,
 ) -> Result<Verdicts, Halt<PatternRefused>>
     ensures went { Went (D.world desk.old) (D.world desk.new)
-        (judge_with D.finds config.now (option_copied own.entry) l.now.profile filters.now.focus
+        (judge_with D.finds filtering.now (option_copied own.entry) l.now.profile filters.now.focus
         filters.now.ignore) (settled result) }
-    ensures found { IfOk result (λ v. v ≡ verdicts_with D.finds config.now (option_copied own.entry)
+    ensures found { IfOk result
+        (λ v. v ≡ verdicts_with D.finds filtering.now (option_copied own.entry)
         l.now.profile filters.now.focus filters.now.ignore) }
 {
     let texts = &l.profile.get().text;
-    let frames = judge_frames(desk, config, texts)?;
+    let frames = judge_frames(desk, filtering, texts)?;
     let tags = judge_tags(alloc, desk, l, filters)?;
-    let names = judge_names(desk, config, own, texts)?;
+    let names = judge_names(desk, filtering, own, texts)?;
     Ok(all_verdicts(frames, tags, names))
 }
 
@@ -140,18 +141,18 @@ fn judge_with<D: Desk>(
 #[tactic(auto, using(pp_desk::proofs::AskingLemmas::asking), unfolding(crate::specs::Report::judge_frames))]
 fn judge_frames<D: Desk>(
     desk: &mut D,
-    config: &Config,
+    filtering: &Filtering,
     texts: &List<Text>,
 ) -> Result<FrameVerdicts, Halt<PatternRefused>>
     ensures went { Went (D.world desk.old) (D.world desk.new)
-        (judge_frames D.finds config.now texts.now) (settled result) }
-    ensures found { IfOk result (λ v. v ≡ frames_found D.finds config.now texts.now) }
+        (judge_frames D.finds filtering.now texts.now) (settled result) }
+    ensures found { IfOk result (λ v. v ≡ frames_found D.finds filtering.now texts.now) }
 {
-    let focus = judge_option(desk, at(Slot::Focus), &config.focus, texts)?;
-    let ignore = judge_option(desk, at(Slot::Ignore), &config.ignore, texts)?;
-    let hide = judge_option(desk, at(Slot::Hide), &config.hide, texts)?;
-    let show = judge_option(desk, at(Slot::Show), &config.show, texts)?;
-    let show_from = judge_option(desk, at(Slot::ShowFrom), &config.show_from, texts)?;
+    let focus = judge_option(desk, at(Slot::Focus), &filtering.focus, texts)?;
+    let ignore = judge_option(desk, at(Slot::Ignore), &filtering.ignore, texts)?;
+    let hide = judge_option(desk, at(Slot::Hide), &filtering.hide, texts)?;
+    let show = judge_option(desk, at(Slot::Show), &filtering.show, texts)?;
+    let show_from = judge_option(desk, at(Slot::ShowFrom), &filtering.show_from, texts)?;
     Ok(FrameVerdicts {
         focus,
         ignore,
@@ -231,18 +232,18 @@ fn judge_filter<D: Desk>(
 #[tactic(auto, using(pp_desk::proofs::AskingLemmas::asking), unfolding(crate::specs::Report::judge_names))]
 fn judge_names<D: Desk>(
     desk: &mut D,
-    config: &Config,
+    filtering: &Filtering,
     own: Option<&Text>,
     texts: &List<Text>,
 ) -> Result<NameVerdicts, Halt<PatternRefused>>
     ensures went { Went (D.world desk.old) (D.world desk.new)
-        (judge_names D.finds config.now (option_copied own.entry) texts.now) (settled result) }
+        (judge_names D.finds filtering.now (option_copied own.entry) texts.now) (settled result) }
     ensures found { IfOk result
-        (λ v. v ≡ names_found D.finds config.now (option_copied own.entry) texts.now) }
+        (λ v. v ≡ names_found D.finds filtering.now (option_copied own.entry) texts.now) }
 {
-    let prune_from = judge_option(desk, at(Slot::PruneFrom), &config.prune_from, texts)?;
-    let tagshow = judge_option(desk, at(Slot::TagShow), &config.tagshow, texts)?;
-    let taghide = judge_option(desk, at(Slot::TagHide), &config.taghide, texts)?;
+    let prune_from = judge_option(desk, at(Slot::PruneFrom), &filtering.prune_from, texts)?;
+    let tagshow = judge_option(desk, at(Slot::TagShow), &filtering.tagshow, texts)?;
+    let taghide = judge_option(desk, at(Slot::TagHide), &filtering.taghide, texts)?;
     let own = judge_own(desk, own, texts)?;
     Ok(NameVerdicts {
         prune_from,

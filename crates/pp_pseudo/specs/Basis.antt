@@ -1,7 +1,7 @@
 -- The profile that a report is made of: the loaded one, or the same with the frames from labels that are asked for.
 use Rattle.std.specs.Prelude.{ℕ, ◌==◌, ◌&&◌, List, length, if◌then◌else◌}
-use Rattle.pp_model.specs.declared.config.Config.{Config}
 use Rattle.pp_model.specs.declared.loaded.Loaded.{Loaded}
+use Rattle.pp_model.specs.declared.presentation.Presentation.{Presentation}
 use Rattle.pp_pseudo.specs.KeyList.{key_list}
 use Rattle.pp_pseudo.specs.WithTags.{tagged}
 
@@ -11,5 +11,6 @@ framed_by l roots leaves =
     if length roots == 0 && length leaves == 0 then l else tagged l roots leaves
 
 -- the profile with the frames that the configuration asks for
-abbrev pub framed_for : Loaded → Config → Loaded
-framed_for l config = framed_by l (key_list config.tagroot) (key_list config.tagleaf)
+abbrev pub framed_for : Loaded → Presentation → Loaded
+framed_for l presentation =
+    framed_by l (key_list presentation.tagroot) (key_list presentation.tagleaf)

@@ -7,7 +7,7 @@ use crate::keys::key_list;
 use crate::tagging::with_tags;
 use pp_base::{List, Memory, Text};
 use pp_keys::HashKeys;
-use pp_model::{Config, Loaded};
+use pp_model::{Loaded, Presentation};
 use std::alloc::Global;
 
 /// The profile with the frames that `tagroot` and `tagleaf` ask for, None where these name no key. `Err` is want of
@@ -16,14 +16,15 @@ pub fn framed_for(
     alloc: Global,
     hash_keys: HashKeys,
     l: &Loaded,
-    config: &Config,
+    presentation: &Presentation,
 ) -> Result<Option<Loaded>, Memory>
     requires { IsCountable l.now.profile }
-    ensures framed { IfOk result (λ framed. unwrap_or framed l.now ≡ framed_for l.now config.now) }
+    ensures framed { IfOk result
+        (λ framed. unwrap_or framed l.now ≡ framed_for l.now presentation.now) }
     ensures countable { IfOk result (λ framed. IsCountable (unwrap_or framed l.now).profile) }
 {
-    let roots = key_list(alloc, config.tagroot.as_slice())?;
-    let leaves = key_list(alloc, config.tagleaf.as_slice())?;
+    let roots = key_list(alloc, presentation.tagroot.as_slice())?;
+    let leaves = key_list(alloc, presentation.tagleaf.as_slice())?;
     framed_by(alloc, hash_keys, l, &roots, &leaves)
 }
 

@@ -86,7 +86,7 @@ module _ (finds : Finds) (l : Loaded) (report : Report) (config : Config) where
       → Went w w (finish_on finds l report config s) (Ok (Ok text))
   unfolding finish_on text_by
   finish_comments w s text comments is =
-      subst (λ r. Went {T = Result (List ℕ) ReportRefusal} w w (finish_by l.profile (report_finders finds l r config) config s r) (Ok (Ok text))) (sym comments)
+      subst (λ r. Went {T = Result (List ℕ) ReportRefusal} w w (finish_by l.profile (report_finders finds l r config.filtering) config s r) (Ok (Ok text))) (sym comments)
       (subst (λ t. Went {T = Result (List ℕ) ReportRefusal} w w (Give (Ok (comments_text l.profile))) (Ok (Ok t))) (sym is) (gives w (Ok (comments_text l.profile))))
 
   -- what was counted, where something was
@@ -110,14 +110,14 @@ finish_lacks finds l base report config s w lacks = by_lack finds l base report 
 
 module _ (finds : Finds) (l : Loaded) (report : Report) (config : Config) (prepared : Prepared) (is : IsPrepared finds l report config prepared)
     (over : Loaded) (made_of : over ≡ unwrap_or prepared.tagged l) where
-  pub over_basis : over ≡ basis_of report l config
+  pub over_basis : over ≡ basis_of report l config.presentation
   over_basis = made_of ∙ is.basis
 
   -- what was counted is of the profile that the report is made of
   pub counts_over : (counts : Counts) → prepared.counts ≡ Some counts → AreCounts finds over report config prepared.shows.column counts
   counts_over counts some =
       subst (λ q. AreCounts finds q report config prepared.shows.column counts) (sym over_basis)
-      (counts_at finds (basis_of report l config) report config prepared.shows.column prepared.counts counts some is.settled.has_counts)
+      (counts_at finds (basis_of report l config.presentation) report config prepared.shows.column prepared.counts counts some is.settled.has_counts)
 
   module _ (base : Option BaseKind) (a b : World) (has : lacks_base base l.profile report ≡ false) where
     -- how its text went is how the report went
@@ -129,7 +129,7 @@ module _ (finds : Finds) (l : Loaded) (report : Report) (config : Config) (prepa
 
   module _ (none : prepared.counts ≡ None) (base : Option BaseKind) (w : World) (has : lacks_base base l.profile report ≡ false) where
     comments_report : report ≡ reports.Comments
-    comments_report = is_comments finds (basis_of report l config) report config prepared.shows.column prepared.counts none is.settled.has_counts
+    comments_report = is_comments finds (basis_of report l config.presentation) report config prepared.shows.column prepared.counts none is.settled.has_counts
 
     by_comments : (text : Result (List ℕ) Memory) → IfOk text (λ t. t ≡ comments_text over.profile) → Went w w (finish_on finds over report config (showing prepared.shows)) (answer_of_text text)
     by_comments (Ok text) made = finish_comments finds over report config w (showing prepared.shows) text comments_report made
@@ -142,14 +142,14 @@ module _ (finds : Finds) (l : Loaded) (report : Report) (config : Config) (prepa
 
 -- the text of a saved profile
 module _ (w : World) (p : Profile) (f : Finders) (config : Config) (column : Option ℕ) (h : Facts) where
-  saved_gives : (text : Result (List ℕ) Memory) → IfOk text (IsProtoOf p f config) → Went w w (text_by p f config column h reports.Proto) (answer_of_text text)
+  saved_gives : (text : Result (List ℕ) Memory) → IfOk text (IsProtoOf p f config.filtering) → Went w w (text_by p f config column h reports.Proto) (answer_of_text text)
   unfolding text_by
   saved_gives (Ok text) is =
-      subst (λ t. Went {T = Result (List ℕ) ReportRefusal} w w (Give (Ok (encode (saved p f config)))) (Ok (Ok t))) (sym is.bytes) (gives w (Ok (encode (saved p f config))))
+      subst (λ t. Went {T = Result (List ℕ) ReportRefusal} w w (Give (Ok (encode (saved p f config.filtering)))) (Ok (Ok t))) (sym is.bytes) (gives w (Ok (encode (saved p f config.filtering))))
   saved_gives (Err e) is = wants w _
 
   pub finish_proto : (report : Report) (text : Result (List ℕ) Memory) (r : Result (Result (List ℕ) ReportRefusal) Stop) → report ≡ reports.Proto
-      → r ≡ answer_of_text text → IfOk text (IsProtoOf p f config) → Went w w (text_by p f config column h report) r
+      → r ≡ answer_of_text text → IfOk text (IsProtoOf p f config.filtering) → Went w w (text_by p f config column h report) r
   finish_proto report text r proto made is =
       subst (λ x. Went w w (text_by p f config column h x) r) (sym proto) (subst (λ x. Went w w (text_by p f config column h reports.Proto) x) (sym made) (saved_gives text is))
 

@@ -17,6 +17,8 @@ use Rattle.pp_model.specs.declared.report.BaseKind.{BaseKind}
 use Rattle.pp_model.specs.declared.report.Report.{Report}
 use Rattle.pp_model.specs.declared.report.Report.TheVariants as reports
 use Rattle.pp_model.specs.declared.verdicts.Verdicts.{Verdicts}
+use Rattle.pp_model.specs.declared.filtering.Filtering.{Filtering}
+use Rattle.pp_model.specs.declared.presentation.Presentation.{Presentation}
 use Rattle.pp_model.specs.Conditions.{IsColumnOf}
 use Rattle.pp_model.specs.Rules.{IsCompact}
 use Rattle.pp_model.specs.Sizes.{IsCountable}
@@ -35,50 +37,50 @@ use Rattle.pp_report.specs.Prepared.{Settled, Showing, showing, settled_of, coun
 use Rattle.pp_report.specs.Tagged.{basis_of}
 use Rattle.pp_report.proofs.PatternLemmas.{report_holds, can_count}
 
-module _ (finds : Finds) (l : Loaded) (report : Report) (config : Config) (s : Showing) (a b : World) where
+module _ (finds : Finds) (l : Loaded) (report : Report) (filtering : Filtering) (s : Showing) (a b : World) where
   -- the patterns were stopped
-  pub counts_stop : (stop : Stop) → Went a b (ask_patterns finds l report config) (Err stop)
-      → Went a b (prepare_counts finds l report config s) (counts_settled s (Err stop))
+  pub counts_stop : (stop : Stop) → Went a b (ask_patterns finds l report filtering) (Err stop)
+      → Went a b (prepare_counts finds l report filtering s) (counts_settled s (Err stop))
   unfolding prepare_counts
-  counts_stop stop went = asking_stops a b (ask_patterns finds l report config) _ stop went
+  counts_stop stop went = asking_stops a b (ask_patterns finds l report filtering) _ stop went
 
-  module _ (judged : Result Verdicts ReportRefusal) (went : Went a b (ask_patterns finds l report config) (Ok judged)) where
+  module _ (judged : Result Verdicts ReportRefusal) (went : Went a b (ask_patterns finds l report filtering) (Ok judged)) where
     -- one was refused
     pub counts_refused : (r : ReportRefusal) → judged ≡ Err r
-        → Went a b (prepare_counts finds l report config s) (counts_settled s (Ok (Err r)))
+        → Went a b (prepare_counts finds l report filtering s) (counts_settled s (Ok (Err r)))
     unfolding prepare_counts
     counts_refused r is =
-        asking_refused a b (ask_patterns finds l report config) _ r (subst (λ j. Went a b (ask_patterns finds l report config) (Ok j)) is went)
+        asking_refused a b (ask_patterns finds l report filtering) _ r (subst (λ j. Went a b (ask_patterns finds l report filtering) (Ok j)) is went)
 
     module _ (v : Verdicts) (is : judged ≡ Ok v) where
-      asked : Went a b (ask_patterns finds l report config) (Ok (Ok v))
-      asked = subst (λ j. Went a b (ask_patterns finds l report config) (Ok j)) is went
+      asked : Went a b (ask_patterns finds l report filtering) (Ok (Ok v))
+      asked = subst (λ j. Went a b (ask_patterns finds l report filtering) (Ok j)) is went
 
       -- memory was wanting after them
-      pub counts_want : Went a b (prepare_counts finds l report config s) (counts_settled s (Err stops.Memory))
+      pub counts_want : Went a b (prepare_counts finds l report filtering s) (counts_settled s (Err stops.Memory))
       unfolding prepare_counts
-      counts_want = asking_second a b (ask_patterns finds l report config) _ b v (Err stops.Memory) asked (wants b _)
+      counts_want = asking_second a b (ask_patterns finds l report filtering) _ b v (Err stops.Memory) asked (wants b _)
 
       -- all samples were counted
-      pub counts_all : (made : Counts × List ℕ) → made.1 ≡ notes_of finds l report config
-          → Went a b (prepare_counts finds l report config s) (counts_settled s (Ok (Ok made)))
+      pub counts_all : (made : Counts × List ℕ) → made.1 ≡ notes_of finds l report filtering
+          → Went a b (prepare_counts finds l report filtering s) (counts_settled s (Ok (Ok made)))
       unfolding prepare_counts
       counts_all made notes =
-          asking_second a b (ask_patterns finds l report config) _ b v (Ok (Ok (record { showing = s; notes = made.1 }))) asked
-          (subst (λ text. Went {T = Result Settled ReportRefusal} b b (Give (Ok (settled_of finds l report config s))) (Ok (Ok (record { showing = s; notes = text })))) (sym notes)
-          (asking_gives b (settled_of finds l report config s)))
+          asking_second a b (ask_patterns finds l report filtering) _ b v (Ok (Ok (record { showing = s; notes = made.1 }))) asked
+          (subst (λ text. Went {T = Result Settled ReportRefusal} b b (Give (Ok (settled_of finds l report filtering s))) (Ok (Ok (record { showing = s; notes = text })))) (sym notes)
+          (asking_gives b (settled_of finds l report filtering s)))
 
 -- what was counted by the verdicts of the report's patterns
 pub all_counted : (finds : Finds) (l : Loaded) (report : Report) (config : Config) (column : Option ℕ) (v : Verdicts)
-    → AreVerdictsOf finds config (own_pattern report) l v → IsCompact l.profile → IsCountable l.profile → IsColumnOf l.profile column
+    → AreVerdictsOf finds config.filtering (own_pattern report) l v → IsCompact l.profile → IsCountable l.profile → IsColumnOf l.profile column
     → (counted : Counted) → IsCountedOf l v config column counted → (made : Counts × List ℕ)
-    → made ≡ (record { verdicts = v; counted = counted }, notes_by config counted.matched.slots)
+    → made ≡ (record { verdicts = v; counted = counted }, notes_by config.filtering counted.matched.slots)
     → AreCountsNoted finds l report config column made
 all_counted finds l report config column v are compact countable below counted sums made is =
-    let holds = report_holds finds l report config v are compact in
+    let holds = report_holds finds l report config.filtering v are compact in
     subst (AreCountsNoted finds l report config column) (sym is) (record {
-      counts = record { holds = holds; can = can_count finds l report config v are column countable below; are = sums };
-      notes = ap (notes_by config) (sums.matches (report_finders finds l report config) holds);
+      counts = record { holds = holds; can = can_count finds l report config.filtering v are column countable below; are = sums };
+      notes = ap (notes_by config.filtering) (sums.matches (report_finders finds l report config.filtering) holds);
     })
 
 -- a list is a front of itself
@@ -104,68 +106,68 @@ uncounted_comments reports.Account uncounted = absurd (true≢false uncounted)
 
 module _ (finds : Finds) (l : Loaded) (report : Report) (config : Config) where
   -- one that is asks for its patterns
-  pub showing_counts : (s : Showing) → is_counted report ≡ true → prepare_showing finds l report config s ≡ prepare_counts finds l report config s
+  pub showing_counts : (s : Showing) → is_counted report ≡ true → prepare_showing finds l report config.filtering s ≡ prepare_counts finds l report config.filtering s
   unfolding prepare_showing
   showing_counts s counted =
-      ap (λ (yes : Bool). if yes then prepare_counts finds l report config s else Give (Ok (record { showing = s; notes = [] }))) counted
+      ap (λ (yes : Bool). if yes then prepare_counts finds l report config.filtering s else Give (Ok (record { showing = s; notes = [] }))) counted
 
   -- it is known what the report shows
-  prepare_shown : (a b : World) (s : Showing) (answer : Result (Result Settled ReportRefusal) Stop) → Ok s ≡ showing_for report l.profile config
-      → Went a b (prepare_showing finds l report config s) answer → Went a b (prepare_on finds l report config) answer
+  prepare_shown : (a b : World) (s : Showing) (answer : Result (Result Settled ReportRefusal) Stop) → Ok s ≡ showing_for report l.profile config.presentation
+      → Went a b (prepare_showing finds l report config.filtering s) answer → Went a b (prepare_on finds l report config) answer
   unfolding prepare_on
-  prepare_shown a b s answer known went = subst (λ k. Went a b (go_on (prepare_showing finds l report config) k) answer) known went
+  prepare_shown a b s answer known went = subst (λ k. Went a b (go_on (prepare_showing finds l report config.filtering) k) answer) known went
 
   -- it is refused at once
-  pub prepare_refused : (w : World) (r : ReportRefusal) → Err r ≡ showing_for report l.profile config
+  pub prepare_refused : (w : World) (r : ReportRefusal) → Err r ≡ showing_for report l.profile config.presentation
       → Went w w (prepare_on finds l report config) (Ok (Err r))
   unfolding prepare_on
   prepare_refused w r known =
-      subst (λ k. Went {T = Result Settled ReportRefusal} w w (go_on (prepare_showing finds l report config) k) (Ok (Err r))) known (gives w (Err r))
+      subst (λ k. Went {T = Result Settled ReportRefusal} w w (go_on (prepare_showing finds l report config.filtering) k) (Ok (Err r))) known (gives w (Err r))
 
   -- one that isn't counted asks for nothing
-  pub prepare_uncounted : (w : World) (s : Showing) → is_counted report ≡ false → Ok s ≡ showing_for report l.profile config
+  pub prepare_uncounted : (w : World) (s : Showing) → is_counted report ≡ false → Ok s ≡ showing_for report l.profile config.presentation
       → Went w w (prepare_on finds l report config) (Ok (Ok (record { showing = s; notes = [] })))
   unfolding prepare_showing
   prepare_uncounted w s uncounted known =
       let settled : Settled = record { showing = s; notes = [] } in
       prepare_shown w w s (Ok (Ok settled)) known
-      (subst (λ (counted : Bool). Went {T = Result Settled ReportRefusal} w w (if counted then prepare_counts finds l report config s else Give (Ok settled)) (Ok (Ok settled))) (sym uncounted)
+      (subst (λ (counted : Bool). Went {T = Result Settled ReportRefusal} w w (if counted then prepare_counts finds l report config.filtering s else Give (Ok settled)) (Ok (Ok settled))) (sym uncounted)
       (asking_gives w settled))
 
   -- one that is, over a profile that is this one
   pub prepare_counted : (over : Loaded) → over ≡ l → (a b : World) (s : Showing) (answer : Result (Result Settled ReportRefusal) Stop) → is_counted report ≡ true
-      → Ok s ≡ showing_for report l.profile config → Went a b (prepare_counts finds over report config s) answer → Went a b (prepare_on finds l report config) answer
+      → Ok s ≡ showing_for report l.profile config.presentation → Went a b (prepare_counts finds over report config.filtering s) answer → Went a b (prepare_on finds l report config) answer
   prepare_counted over same a b s answer counted known went =
       prepare_shown a b s answer known
-      (subst (λ script. Went a b script answer) (sym (showing_counts s counted)) (subst (λ q. Went a b (prepare_counts finds q report config s) answer) same went))
+      (subst (λ script. Went a b script answer) (sym (showing_counts s counted)) (subst (λ q. Went a b (prepare_counts finds q report config.filtering s) answer) same went))
 
-module _ (l : Loaded) (report : Report) (config : Config) where
+module _ (l : Loaded) (report : Report) (presentation : Presentation) where
   -- a report that counts no samples is made of the loaded profile
-  pub basis_uncounted : is_counted report ≡ false → l ≡ basis_of report l config
+  pub basis_uncounted : is_counted report ≡ false → l ≡ basis_of report l presentation
   unfolding basis_of
-  basis_uncounted uncounted = ap (λ (yes : Bool). if yes then framed_for l config else l) (sym uncounted)
+  basis_uncounted uncounted = ap (λ (yes : Bool). if yes then framed_for l presentation else l) (sym uncounted)
 
   -- and one that counts them of the one with frames
-  pub basis_counted : is_counted report ≡ true → framed_for l config ≡ basis_of report l config
+  pub basis_counted : is_counted report ≡ true → framed_for l presentation ≡ basis_of report l presentation
   unfolding basis_of
-  basis_counted counted = ap (λ (yes : Bool). if yes then framed_for l config else l) (sym counted)
+  basis_counted counted = ap (λ (yes : Bool). if yes then framed_for l presentation else l) (sym counted)
 
 module _ (finds : Finds) (l : Loaded) (report : Report) (config : Config) (known : Shows)
-    (shows : Ok (showing known) ≡ showing_for report (basis_of report l config).profile config) (prepared : Prepared) where
+    (shows : Ok (showing known) ≡ showing_for report (basis_of report l config.presentation).profile config.presentation) (prepared : Prepared) where
   -- nothing was counted
   pub none_prepared : is_counted report ≡ false → (base : Option BaseKind) → prepared ≡ record { base = base; notes = []; shows = known; counts = None; tagged = None }
       → IsPrepared finds l report config prepared
   none_prepared uncounted base is = subst (IsPrepared finds l report config) (sym is) (record {
-    basis = basis_uncounted l report config uncounted;
+    basis = basis_uncounted l report config.presentation uncounted;
     settled = record {
       shows_what = sym shows;
       has_counts = uncounted;
-      notes_front = (notes_of finds (basis_of report l config) report config, refl);
+      notes_front = (notes_of finds (basis_of report l config.presentation) report config.filtering, refl);
     };
   })
 
   -- all was counted over the profile that the report is made of
-  pub counts_prepared : (over : Loaded) → over ≡ basis_of report l config → (tagged : Option Loaded) → over ≡ unwrap_or tagged l
+  pub counts_prepared : (over : Loaded) → over ≡ basis_of report l config.presentation → (tagged : Option Loaded) → over ≡ unwrap_or tagged l
       → (base : Option BaseKind) (made : Counts × List ℕ) → AreCountsNoted finds over report config known.column made
       → prepared ≡ record { base = base; notes = made.1; shows = known; counts = Some made.0; tagged = tagged }
       → IsPrepared finds l report config prepared
@@ -176,6 +178,6 @@ module _ (finds : Finds) (l : Loaded) (report : Report) (config : Config) (known
         settled = record {
           shows_what = sym shows;
           has_counts = own.counts;
-          notes_front = front_same made.1 (notes_of finds (basis_of report l config) report config) own.notes;
+          notes_front = front_same made.1 (notes_of finds (basis_of report l config.presentation) report config.filtering) own.notes;
         };
       })

@@ -3,7 +3,7 @@ use Rattle.std.proofs.Common.{◌≡◌, refl, true, false, [], ◌∷◌, codes
 use Rattle.std.specs.Prelude.{Some, None}
 use Rattle.pp_model.specs.declared.report.Report.TheVariants as reports
 use Rattle.pp_model.specs.declared.verdicts.Slot.TheVariants as slots
-use Rattle.pp_model.specs.Defaults.{defaults}
+use Rattle.pp_model.specs.Defaults.{standard_filtering}
 use Rattle.pp_units.specs.Scales.{is_named, scale_of}
 use Rattle.pp_units.specs.Shown.{forced, is_same_kind}
 use Rattle.pp_report.specs.declared.refusal.ReportRefusal.TheVariants.{BadSampleIndex, PatternRefused, NoMatch}
@@ -36,7 +36,7 @@ unfolding report_refusal_line
 bad_index = refl
 
 -- an option without a match is noted, in the order of the options, and one that is empty is not
-two_notes : notes_by (record defaults { hide = codes "x"; taghide = codes "y"; show = codes "z" })
+two_notes : notes_by (record standard_filtering { hide = codes "x"; taghide = codes "y"; show = codes "z" })
     (false ∷ false ∷ false ∷ true ∷ false ∷ false ∷ false ∷ true ∷ false ∷ false ∷ [])
     ≡ codes "pprof: hide matched no samples\npprof: taghide matched no samples\n"
 unfolding notes_by note_unless

@@ -6,11 +6,11 @@ use Rattle.std.specs.Option.{MatchOption, option_and_then, option_map_or}
 use Rattle.std.proofs.lemmas.List.{length-map}
 use Rattle.std.proofs.lemmas.Option.{slice_get-map}
 use Rattle.std.proofs.lemmas.Simd.{map-map}
-use Rattle.pp_model.specs.declared.config.Config.{Config}
 use Rattle.pp_model.specs.declared.loaded.Loaded.{Loaded}
 use Rattle.pp_model.specs.declared.profile.Profile.{Profile}
 use Rattle.pp_model.specs.declared.profile.ValueType.{ValueType}
 use Rattle.pp_model.specs.declared.report.Report.{Report}
+use Rattle.pp_model.specs.declared.presentation.Presentation.{Presentation}
 use Rattle.pp_model.specs.Conditions.{IsColumnOf}
 use Rattle.pp_model.specs.Lookup.{text_of}
 use Rattle.pp_model.specs.ReportFacts.{shows_values, is_counted}
@@ -62,19 +62,19 @@ module _ (p q : Profile) (same : HasTypesOf p q) where
   pub same_column : (text : List ℕ) → column_of q text ≡ column_of p text
   same_column = columns_alike p q same_names same.default
 
-  same_in : (config : Config) (column : Option (Option ℕ)) → in_column q config column ≡ in_column p config column
-  same_in config None = refl
-  same_in config (Some column) = ap (λ unit. in_unit column (wanted_unit config.unit unit)) (same_unit column)
+  same_in : (presentation : Presentation) (column : Option (Option ℕ)) → in_column q presentation column ≡ in_column p presentation column
+  same_in presentation None = refl
+  same_in presentation (Some column) = ap (λ unit. in_unit column (wanted_unit presentation.unit unit)) (same_unit column)
 
-  same_values : (config : Config) → in_column q config (column_of q config.sample_index) ≡ in_column p config (column_of p config.sample_index)
-  same_values config = ap (in_column q config) (same_column config.sample_index) ∙ same_in config (column_of p config.sample_index)
+  same_values : (presentation : Presentation) → in_column q presentation (column_of q presentation.sample_index) ≡ in_column p presentation (column_of p presentation.sample_index)
+  same_values presentation = ap (in_column q presentation) (same_column presentation.sample_index) ∙ same_in presentation (column_of p presentation.sample_index)
 
   -- a report shows the same of both
-  pub same_showing : (report : Report) (config : Config) → showing_for report q config ≡ showing_for report p config
-  same_showing report config =
-      elim (shows_values report) as (λ values. (if values then in_column q config (column_of q config.sample_index) else Ok (record { column = None; wanted = None }))
-      ≡ (if values then in_column p config (column_of p config.sample_index) else Ok (record { column = None; wanted = None }))) [
-        | true ↦ same_values config
+  pub same_showing : (report : Report) (presentation : Presentation) → showing_for report q presentation ≡ showing_for report p presentation
+  same_showing report presentation =
+      elim (shows_values report) as (λ values. (if values then in_column q presentation (column_of q presentation.sample_index) else Ok (record { column = None; wanted = None }))
+      ≡ (if values then in_column p presentation (column_of p presentation.sample_index) else Ok (record { column = None; wanted = None }))) [
+        | true ↦ same_values presentation
         | false ↦ refl
       ]
 
@@ -112,13 +112,13 @@ module _ (l : Loaded) where
     | false ↦ tagged_types roots leaves
   ]
 
-  pub basis_types : (report : Report) (config : Config) → HasTypesOf l.profile (basis_of report l config).profile
+  pub basis_types : (report : Report) (presentation : Presentation) → HasTypesOf l.profile (basis_of report l presentation).profile
   unfolding basis_of
-  basis_types report config = elim (is_counted report) as (λ counted. HasTypesOf l.profile (if counted then framed_for l config else l).profile) [
-    | true ↦ by_types (key_list config.tagroot) (key_list config.tagleaf)
+  basis_types report presentation = elim (is_counted report) as (λ counted. HasTypesOf l.profile (if counted then framed_for l presentation else l).profile) [
+    | true ↦ by_types (key_list presentation.tagroot) (key_list presentation.tagleaf)
     | false ↦ record { types = refl; default = refl }
   ]
 
   -- What a report shows is decided on the loaded profile.
-  pub basis_shows : (report : Report) (config : Config) → showing_for report (basis_of report l config).profile config ≡ showing_for report l.profile config
-  basis_shows report config = same_showing l.profile (basis_of report l config).profile (basis_types report config) report config
+  pub basis_shows : (report : Report) (presentation : Presentation) → showing_for report (basis_of report l presentation).profile presentation ≡ showing_for report l.profile presentation
+  basis_shows report presentation = same_showing l.profile (basis_of report l presentation).profile (basis_types report presentation) report presentation

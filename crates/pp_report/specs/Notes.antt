@@ -1,9 +1,9 @@
 -- The notes of a report: a line for each option that is in force and matches nothing.
 use Rattle.std.specs.Prelude.{ℕ, ◌==◌, Bool, true, ◌||◌, List, [], ◌++◌, length, codes, slice_index_or, if◌then◌else◌}
-use Rattle.pp_model.specs.declared.config.Config.{Config}
 use Rattle.pp_model.specs.declared.profile.Profile.{Profile}
 use Rattle.pp_model.specs.declared.verdicts.Slot.{Slot}
 use Rattle.pp_model.specs.declared.verdicts.Slot.TheVariants as slots
+use Rattle.pp_model.specs.declared.filtering.Filtering.{Filtering}
 use Rattle.pp_model.specs.Finders.{Finders}
 use Rattle.pp_model.specs.ReportFacts.{variable_name}
 use Rattle.pp_count.specs.Matches.{matches_of}
@@ -36,27 +36,27 @@ note_unless matched slot value =
     if length value == 0 || has_match matched slot then [] else note (variable_name slot)
 
 -- the notes on the patterns of frames, by which options match
-abbrev pub frame_notes : Config → List Bool → List ℕ
-frame_notes config matched =
-    note_unless matched slots.Focus config.focus
-    ++ note_unless matched slots.Ignore config.ignore
-    ++ note_unless matched slots.Hide config.hide
-    ++ note_unless matched slots.Show config.show
-    ++ note_unless matched slots.ShowFrom config.show_from
+abbrev pub frame_notes : Filtering → List Bool → List ℕ
+frame_notes filtering matched =
+    note_unless matched slots.Focus filtering.focus
+    ++ note_unless matched slots.Ignore filtering.ignore
+    ++ note_unless matched slots.Hide filtering.hide
+    ++ note_unless matched slots.Show filtering.show
+    ++ note_unless matched slots.ShowFrom filtering.show_from
 
 -- the notes on the patterns of labels, likewise
-abbrev pub tag_notes : Config → List Bool → List ℕ
-tag_notes config matched =
-    note_unless matched slots.TagFocus config.tagfocus
-    ++ note_unless matched slots.TagIgnore config.tagignore
-    ++ note_unless matched slots.TagShow config.tagshow
-    ++ note_unless matched slots.TagHide config.taghide
+abbrev pub tag_notes : Filtering → List Bool → List ℕ
+tag_notes filtering matched =
+    note_unless matched slots.TagFocus filtering.tagfocus
+    ++ note_unless matched slots.TagIgnore filtering.tagignore
+    ++ note_unless matched slots.TagShow filtering.tagshow
+    ++ note_unless matched slots.TagHide filtering.taghide
 
 -- The notes by which options match: focus, ignore, hide, show, show_from, tagfocus,
 -- tagignore, prune_from (which is never noted), tagshow and taghide.
-unfoldable pub notes_by : Config → List Bool → List ℕ
-notes_by config matched = frame_notes config matched ++ tag_notes config matched
+unfoldable pub notes_by : Filtering → List Bool → List ℕ
+notes_by filtering matched = frame_notes filtering matched ++ tag_notes filtering matched
 
 -- The notes of a report, of what its patterns match in the samples of the profile.
-abbrev pub notes_text : Profile → Finders → Config → List ℕ
-notes_text p f config = notes_by config (matches_of p f config)
+abbrev pub notes_text : Profile → Finders → Filtering → List ℕ
+notes_text p f filtering = notes_by filtering (matches_of p f filtering)

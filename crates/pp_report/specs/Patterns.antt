@@ -2,10 +2,10 @@
 use Rattle.std.specs.Prelude.{Result, Ok, Err, option_map}
 use Rattle.pp_desk.specs.Asking.{Asking}
 use Rattle.pp_desk.specs.Script.{Give, ◌>>=◌}
-use Rattle.pp_model.specs.declared.config.Config.{Config}
 use Rattle.pp_model.specs.declared.loaded.Loaded.{Loaded}
 use Rattle.pp_model.specs.declared.report.Report.{Report}
 use Rattle.pp_model.specs.declared.verdicts.Verdicts.{Verdicts}
+use Rattle.pp_model.specs.declared.filtering.Filtering.{Filtering}
 use Rattle.pp_model.specs.Finders.{Finders}
 use Rattle.pp_model.specs.ReportFacts.{own_pattern}
 use Rattle.pp_stack.specs.LoadFinders.{finder_by}
@@ -15,9 +15,9 @@ use Rattle.pp_report.specs.declared.refusal.ReportRefusal.{ReportRefusal}
 use Rattle.pp_report.specs.declared.refusal.ReportRefusal.TheVariants.{PatternRefused}
 
 -- What the patterns of a report find, and those of its profile.
-abbrev pub report_finders : Finds → Loaded → Report → Config → Finders
-report_finders finds l report config =
-    finders_of finds config (own_pattern report) (option_map (finder_by l.profile) l.drop)
+abbrev pub report_finders : Finds → Loaded → Report → Filtering → Finders
+report_finders finds l report filtering =
+    finders_of finds filtering (own_pattern report) (option_map (finder_by l.profile) l.drop)
     (option_map (finder_by l.profile) l.keep)
 
 -- the answer to the patterns, as one to the report
@@ -26,6 +26,6 @@ of_judged (Ok verdicts) = Ok verdicts
 of_judged (Err refused) = Err (PatternRefused refused.option)
 
 -- Asks for the patterns of a report that aren't empty, up to the first that is refused.
-unfoldable pub ask_patterns : Finds → Loaded → Report → Config → Asking ReportRefusal Verdicts
-ask_patterns finds l report config =
-    judge finds config (own_pattern report) l.profile >>= (λ judged. Give (of_judged judged))
+unfoldable pub ask_patterns : Finds → Loaded → Report → Filtering → Asking ReportRefusal Verdicts
+ask_patterns finds l report filtering =
+    judge finds filtering (own_pattern report) l.profile >>= (λ judged. Give (of_judged judged))

@@ -8,6 +8,8 @@ use Rattle.pp_model.specs.declared.config.Config.{Config}
 use Rattle.pp_model.specs.declared.loaded.Loaded.{Loaded}
 use Rattle.pp_model.specs.declared.profile.Profile.{Profile}
 use Rattle.pp_model.specs.declared.report.Report.{Report}
+use Rattle.pp_model.specs.declared.filtering.Filtering.{Filtering}
+use Rattle.pp_model.specs.declared.presentation.Presentation.{Presentation}
 use Rattle.pp_model.specs.ReportFacts.{shows_values, is_counted}
 use Rattle.pp_pattern.specs.Report.{Finds}
 use Rattle.pp_units.specs.Shown.{Shown, shown}
@@ -35,14 +37,15 @@ in_unit column None = Err UnitMismatch
 in_unit column (Some wanted) = Ok (record { column = column; wanted = wanted })
 
 -- what a report shows, if there is such a column
-abbrev pub in_column : Profile → Config → Option (Option ℕ) → Result Showing ReportRefusal
-in_column p config None = Err BadSampleIndex
-in_column p config (Some column) = in_unit column (wanted_unit config.unit (unit_text p column))
+abbrev pub in_column : Profile → Presentation → Option (Option ℕ) → Result Showing ReportRefusal
+in_column p presentation None = Err BadSampleIndex
+in_column p presentation (Some column) =
+    in_unit column (wanted_unit presentation.unit (unit_text p column))
 
 -- What a report shows. One that shows no values has no column, and is not refused for it.
-abbrev pub showing_for : Report → Profile → Config → Result Showing ReportRefusal
-showing_for report p config =
-    if shows_values report then in_column p config (column_of p config.sample_index)
+abbrev pub showing_for : Report → Profile → Presentation → Result Showing ReportRefusal
+showing_for report p presentation =
+    if shows_values report then in_column p presentation (column_of p presentation.sample_index)
     else Ok (record { column = None; wanted = None })
 
 -- What a report shows, and its notes.
@@ -51,35 +54,40 @@ pub record Settled : Type 0 where
   pub notes : List ℕ
 
 -- the notes of a report that is made of the profile
-abbrev pub notes_of : Finds → Loaded → Report → Config → List ℕ
-notes_of finds l report config = notes_text l.profile (report_finders finds l report config) config
+abbrev pub notes_of : Finds → Loaded → Report → Filtering → List ℕ
+notes_of finds l report filtering =
+    notes_text l.profile (report_finders finds l report filtering) filtering
 
 -- what is settled of a report that shows this, once its patterns are known
-abbrev pub settled_of : Finds → Loaded → Report → Config → Showing → Settled
-settled_of finds l report config showing =
-    record { showing = showing; notes = notes_of finds l report config }
+abbrev pub settled_of : Finds → Loaded → Report → Filtering → Showing → Settled
+settled_of finds l report filtering showing =
+    record { showing = showing; notes = notes_of finds l report filtering }
 
 -- Asks for the patterns of a report that shows this.
-unfoldable pub prepare_counts : Finds → Loaded → Report → Config → Showing → Asking ReportRefusal Settled
-prepare_counts finds l report config showing = do
-  _ ← ask_patterns finds l report config
-  Give (Ok (settled_of finds l report config showing))
+unfoldable pub prepare_counts : Finds → Loaded → Report → Filtering → Showing
+    → Asking ReportRefusal Settled
+prepare_counts finds l report filtering showing = do
+  _ ← ask_patterns finds l report filtering
+  Give (Ok (settled_of finds l report filtering showing))
 
 -- What asking comes to where the report is counted. One that isn't asks for none and has no notes.
-unfoldable pub prepare_showing : Finds → Loaded → Report → Config → Showing → Asking ReportRefusal Settled
-prepare_showing finds l report config showing =
-    if is_counted report then prepare_counts finds l report config showing
+unfoldable pub prepare_showing : Finds → Loaded → Report → Filtering → Showing
+    → Asking ReportRefusal Settled
+prepare_showing finds l report filtering showing =
+    if is_counted report then prepare_counts finds l report filtering showing
     else Give (Ok (record { showing = showing; notes = [] }))
 
 -- What is done before the text of a report is made that is made of this profile. No pattern is asked of one that is
 -- refused for its column or its unit.
 unfoldable pub prepare_on : Finds → Loaded → Report → Config → Asking ReportRefusal Settled
 prepare_on finds l report config =
-    go_on (prepare_showing finds l report config) (showing_for report l.profile config)
+    go_on (prepare_showing finds l report config.filtering)
+    (showing_for report l.profile config.presentation)
 
 -- What asking comes to for a report of the loaded profile, which may first get frames from labels.
 abbrev pub prepare : Finds → Loaded → Report → Config → Asking ReportRefusal Settled
-prepare finds l report config = prepare_on finds (basis_of report l config) report config
+prepare finds l report config =
+    prepare_on finds (basis_of report l config.presentation) report config
 
 -- what `Shows` says
 abbrev pub showing : Shows → Showing
@@ -105,8 +113,9 @@ counts_settled showing (Err stop) = Err stop
 -- The verdicts are those of the report's patterns, and the samples are counted by them.
 pub record AreCounts (finds : Finds) (l : Loaded) (report : Report) (config : Config) (shown_column : Option ℕ)
     (counts : Counts) : Type 0 where
-  pub holds : HoldsFilters l counts.verdicts config (report_finders finds l report config)
-  pub can : CanCount l.profile counts.verdicts config shown_column
+  pub holds : HoldsFilters l counts.verdicts config.filtering
+      (report_finders finds l report config.filtering)
+  pub can : CanCount l.profile counts.verdicts config.filtering shown_column
   pub are : IsCountedOf l counts.verdicts config shown_column counts.counted
 
 -- there are counts where the report is counted
@@ -117,18 +126,18 @@ HasCounts finds l report config column (Some counts) = AreCounts finds l report 
 -- All is settled for the text of the report that is made of this profile.
 pub record IsPreparedOn (finds : Finds) (l : Loaded) (report : Report) (config : Config) (prepared : Prepared)
     : Type 0 where
-  pub shows_what : showing_for report l.profile config ≡ Ok (showing prepared.shows)
+  pub shows_what : showing_for report l.profile config.presentation ≡ Ok (showing prepared.shows)
   pub has_counts : HasCounts finds l report config prepared.shows.column prepared.counts
-  pub notes_front : IsFront prepared.notes (notes_of finds l report config)
+  pub notes_front : IsFront prepared.notes (notes_of finds l report config.filtering)
 
 -- What was prepared is so over the loaded profile.
 pub record IsPrepared (finds : Finds) (l : Loaded) (report : Report) (config : Config) (prepared : Prepared)
     : Type 0 where
-  pub basis : unwrap_or prepared.tagged l ≡ basis_of report l config
-  pub settled : IsPreparedOn finds (basis_of report l config) report config prepared
+  pub basis : unwrap_or prepared.tagged l ≡ basis_of report l config.presentation
+  pub settled : IsPreparedOn finds (basis_of report l config.presentation) report config prepared
 
 -- These are the counts of a report that is made of the profile, and its notes. No public clause cites it.
 pub record AreCountsNoted (finds : Finds) (l : Loaded) (report : Report) (config : Config) (shown_column : Option ℕ)
     (made : Counts × List ℕ) : Type 0 where
   pub counts : AreCounts finds l report config shown_column made.0
-  pub notes : made.1 ≡ notes_of finds l report config
+  pub notes : made.1 ≡ notes_of finds l report config.filtering

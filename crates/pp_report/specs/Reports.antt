@@ -20,8 +20,8 @@ use Rattle.pp_account.specs.Account.{account_text}
 use Rattle.pp_top.specs.Top.{top_text}
 use Rattle.pp_tree.specs.Tree.{tree_text}
 use Rattle.pp_calltree.specs.Text.{calltree_text}
-use Rattle.pp_compare.specs.Changes.{changes_text}
-use Rattle.pp_compare.specs.Compare.{compare_text}
+use Rattle.pp_top.specs.Changes.{changes_text}
+use Rattle.pp_top.specs.Compare.{compare_text}
 use Rattle.pp_export.specs.Folded.{folded_text}
 use Rattle.pp_export.specs.Table.{exact_table}
 use Rattle.pp_tree.specs.Peek.{peek_text}
@@ -60,31 +60,33 @@ list_text p f config column h =
 -- callers and callees
 abbrev pub tree_report_text : Profile → Finders → Config → Option ℕ → Facts → List ℕ
 tree_report_text p f config column h =
-    if config.path_tree then calltree_text p f config column h
-    else tree_text p f config column (node_limit config.nodecount TREE_NODES) h
+    if config.presentation.path_tree then calltree_text p f config column h
+    else tree_text p f config column (node_limit config.presentation.nodecount TREE_NODES) h
 
 -- The text of a report with this head, once its patterns are known. Only a list report reads files.
 unfoldable pub text_by : Profile → Finders → Config → Option ℕ → Facts → Report
     → Script (Result (List ℕ) ReportRefusal)
 text_by p f config column h reports.Top =
-    Give (Ok (top_text p f config column (node_limit config.nodecount 0) h))
+    Give (Ok (top_text p f config column (node_limit config.presentation.nodecount 0) h))
 text_by p f config column h reports.Tree = Give (Ok (tree_report_text p f config column h))
 text_by p f config column h (reports.Peek pattern) = Give (peek_outcome p f config column h)
 text_by p f config column h reports.Traces = Give (Ok (traces_text p f config column h))
 text_by p f config column h reports.Tags = Give (Ok (tags_text p f config column h))
-text_by p f config column h reports.Raw = Give (Ok (raw_text (saved p f config)))
+text_by p f config column h reports.Raw = Give (Ok (raw_text (saved p f config.filtering)))
 text_by p f config column h reports.Comments = Give (Ok (comments_text p))
-text_by p f config column h reports.Proto = Give (Ok (encode (saved p f config)))
+text_by p f config column h reports.Proto = Give (Ok (encode (saved p f config.filtering)))
 text_by p f config column h (reports.List pattern) = list_text p f config column h
 text_by p f config column h reports.Folded = Give (Ok (folded_text p f config column))
 text_by p f config column h reports.Table =
-    Give (Ok (exact_table p f config column (node_limit config.nodecount 0) (unit_text p column)))
+    Give (Ok (exact_table p f config column (node_limit config.presentation.nodecount 0)
+    (unit_text p column)))
 text_by p f config column h reports.Compare =
-    Give (Ok (compare_text p f config column (node_limit config.nodecount 0) h))
+    Give (Ok (compare_text p f config column (node_limit config.presentation.nodecount 0) h))
 text_by p f config column h reports.Changes =
-    Give (Ok (changes_text p f config column (node_limit config.nodecount 0) (unit_text p column)))
+    Give (Ok (changes_text p f config column (node_limit config.presentation.nodecount 0)
+    (unit_text p column)))
 text_by p f config column h reports.Account =
-    Give (Ok (account_text p f config column (node_limit config.nodecount 0) h))
+    Give (Ok (account_text p f config column (node_limit config.presentation.nodecount 0) h))
 
 -- the answer of a report that reads no file, or that memory was wanting
 abbrev pub answer_of_outcome : Result (Result (List ℕ) ReportRefusal) Memory → Result (Result (List ℕ) ReportRefusal) Stop
@@ -106,12 +108,13 @@ finish_by p f config showing report =
 unfoldable pub finish_on : Finds → Loaded → Report → Config → Showing
     → Script (Result (List ℕ) ReportRefusal)
 finish_on finds l report config showing =
-    finish_by l.profile (report_finders finds l report config) config showing report
+    finish_by l.profile (report_finders finds l report config.filtering) config showing report
 
 -- What a report of the loaded profile comes to, which may first get frames from labels.
 abbrev pub finish_made : Finds → Loaded → Report → Config → Showing
     → Script (Result (List ℕ) ReportRefusal)
-finish_made finds l report config showing = finish_on finds (basis_of report l config) report config showing
+finish_made finds l report config showing =
+    finish_on finds (basis_of report l config.presentation) report config showing
 
 -- The text of a report of the loaded profile, where a base of this kind was given, if one was; or its refusal for want
 -- of a base.

@@ -2,10 +2,10 @@
 use Rattle.std.specs.Prelude.{◌≡◌, ℕ, ◌<◌, ◌^◌, List, [], Result, Ok, IfOk}
 use Rattle.std.specs.List.{AllByRecursion}
 use Rattle.pp_desk.specs.declared.stop.Stop.{Stop}
-use Rattle.pp_model.specs.declared.config.Config.{Config}
 use Rattle.pp_model.specs.declared.loaded.Loaded.{Loaded}
 use Rattle.pp_model.specs.declared.profile.Profile.{Profile}
 use Rattle.pp_model.specs.declared.report.Report.TheVariants as reports
+use Rattle.pp_model.specs.declared.filtering.Filtering.{Filtering}
 use Rattle.pp_model.specs.Finders.{Finders}
 use Rattle.pp_model.specs.Lookup.{text_of}
 use Rattle.pp_model.specs.Rules.{NoRuleFails}
@@ -29,13 +29,15 @@ pub record IsLasting (q : Profile) : Type 0 where
   pub keep : text_of q q.keep_frames ≡ []
 
 -- What is known of the text of a saved profile as it is written. The last two are of the profile that it was saved of.
-pub record IsProtoOf (p : Profile) (f : Finders) (config : Config) (text : List ℕ) : Type 0 where
-  pub bytes : text ≡ encode (saved p f config)
-  pub again : read text ≡ Ok (saved p f config)
-  pub lasts : IsLasting (saved p f config)
+pub record IsProtoOf (p : Profile) (f : Finders) (filtering : Filtering) (text : List ℕ)
+    : Type 0 where
+  pub bytes : text ≡ encode (saved p f filtering)
+  pub again : read text ≡ Ok (saved p f filtering)
+  pub lasts : IsLasting (saved p f filtering)
   pub valid : NoRuleFails p
   pub starts : AllByRecursion (λ m. m.start < 2 ^ 64) p.mapping
 
 -- the text is that of the profile saved by what the patterns of a proto report find
-abbrev pub IsProtoBy : Finds → Loaded → Config → List ℕ → Type 0
-IsProtoBy finds l config text = IsProtoOf l.profile (report_finders finds l reports.Proto config) config text
+abbrev pub IsProtoBy : Finds → Loaded → Filtering → List ℕ → Type 0
+IsProtoBy finds l filtering text =
+    IsProtoOf l.profile (report_finders finds l reports.Proto filtering) filtering text

@@ -7,7 +7,7 @@ ghost use Rattle.pp_report.specs.Patterns.{ask_patterns};
 
 use crate::ReportRefusal;
 use pp_desk::{Desk, Stop};
-use pp_model::{Config, Loaded, Report, Verdicts};
+use pp_model::{Filtering, Loaded, Report, Verdicts};
 use pp_pattern::judge;
 use std::alloc::Global;
 
@@ -17,15 +17,15 @@ pub fn ask_patterns<D: Desk>(
     alloc: Global,
     l: &Loaded,
     report: &Report,
-    config: &Config,
+    filtering: &Filtering,
     desk: &mut D,
 ) -> Result<Result<Verdicts, ReportRefusal>, Stop>
     ensures went { Went (D.world desk.old) (D.world desk.new)
-        (ask_patterns D.finds l.now report.now config.now) result }
+        (ask_patterns D.finds l.now report.now filtering.now) result }
     ensures are { IfOk result (λ answer. IfOk answer
-        (AreVerdictsOf D.finds config.now (own_pattern report.now) l.now)) }
+        (AreVerdictsOf D.finds filtering.now (own_pattern report.now) l.now)) }
 {
-    match judge(alloc, desk, config, report.own_pattern(), l)? {
+    match judge(alloc, desk, filtering, report.own_pattern(), l)? {
         Ok(verdicts) => Ok(Ok(verdicts)),
         Err(refused) => Ok(Err(ReportRefusal::PatternRefused {
             option: refused.option,

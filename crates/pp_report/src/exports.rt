@@ -24,7 +24,7 @@ pub fn folded<R: Threads + Sync, G: Gate>(
     survey: &Survey<'_>,
 ) -> Result<Text, Memory>
     ensures { let s = survey.now in (f : Finders) →
-        HoldsFilters s.l.now s.v.now s.config.now f →
+        HoldsFilters s.l.now s.v.now s.config.now.filtering f →
         IfOk result (λ text. text ≡ folded_text s.l.now.profile f s.config.now s.column) }
 {
     let alloc = with.alloc;
@@ -38,12 +38,12 @@ pub fn folded<R: Threads + Sync, G: Gate>(
 /// The table report, whose keys have no limit of their own.
 pub fn table(alloc: Global, survey: &Survey<'_>) -> Result<Text, Memory>
     ensures { let s = survey.now in (f : Finders) →
-        HoldsFilters s.l.now s.v.now s.config.now f →
+        HoldsFilters s.l.now s.v.now s.config.now.filtering f →
         IfOk result (λ text. text ≡ exact_table s.l.now.profile f s.config.now s.column
-        (node_limit s.config.now.nodecount 0) (unit_text s.l.now.profile s.column)) }
+        (node_limit s.config.now.presentation.nodecount 0) (unit_text s.l.now.profile s.column)) }
 {
     let (l, counted) = (survey.l, survey.counted);
-    let limit = limit_of(survey.config, 0);
+    let limit = limit_of(&survey.config.presentation, 0);
     let ranked = rank_all(alloc, l, counted, survey.config, limit)?;
     let unit = unit_text(l.profile.get(), survey.column);
     let mut text = Text::new(alloc);

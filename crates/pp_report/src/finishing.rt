@@ -46,7 +46,8 @@ pub fn finish<R: Threads + Sync, D: Desk, G: Gate>(
     ensures went { Went (D.world desk.old) (D.world desk.new)
         (finish D.finds l.now prepared.base report.now config.now (showing prepared.shows)) result }
     ensures saved { report.now ≡ Proto → OnText result
-        (IsProtoBy D.finds (basis_of report.now l.now config.now) config.now) }
+        (IsProtoBy D.finds (basis_of report.now l.now config.now.presentation)
+        config.now.filtering) }
 {
     if lacks_base(prepared.base, l, report) {
         mem::drop(prepared);
@@ -87,12 +88,13 @@ fn finish_by<R: Threads + Sync, D: Desk, G: Gate>(
     desk: &mut D,
 ) -> Result<Result<Text, ReportRefusal>, Stop>
     ensures went { let s = survey.now in (f : Finders) →
-        HoldsFilters s.l.now s.v.now s.config.now f → Went (D.world desk.old) (D.world desk.new)
+        HoldsFilters s.l.now s.v.now s.config.now.filtering f →
+        Went (D.world desk.old) (D.world desk.new)
         (finish_by s.l.now.profile f s.config.now
         (record { column = s.column; wanted = option_map shown unit }) report.now) result }
     ensures saved { let s = survey.now in (f : Finders) →
-        HoldsFilters s.l.now s.v.now s.config.now f →
-        report.now ≡ Proto → OnText result (IsProtoOf s.l.now.profile f s.config.now) }
+        HoldsFilters s.l.now s.v.now s.config.now.filtering f →
+        report.now ≡ Proto → OnText result (IsProtoOf s.l.now.profile f s.config.now.filtering) }
 {
     let head = head_of(with.alloc, survey, unit)?;
     let subject = Subject {
@@ -111,12 +113,12 @@ fn text_by<R: Threads + Sync, D: Desk, G: Gate>(
     desk: &mut D,
 ) -> Result<Result<Text, ReportRefusal>, Stop>
     ensures went { let s = subject.now.survey in (f : Finders) →
-        HoldsFilters s.l.now s.v.now s.config.now f →
+        HoldsFilters s.l.now s.v.now s.config.now.filtering f →
         Went (D.world desk.old) (D.world desk.new) (text_by s.l.now.profile f s.config.now s.column
         (facts subject.now.head.now) report.now) result }
     ensures saved { let s = subject.now.survey in (f : Finders) →
-        HoldsFilters s.l.now s.v.now s.config.now f →
-        report.now ≡ Proto → OnText result (IsProtoOf s.l.now.profile f s.config.now) }
+        HoldsFilters s.l.now s.v.now s.config.now.filtering f →
+        report.now ≡ Proto → OnText result (IsProtoOf s.l.now.profile f s.config.now.filtering) }
 {
     let (alloc, survey) = (with.alloc, &subject.survey);
     match report {
@@ -166,7 +168,7 @@ fn list<D: Desk>(
     desk: &mut D,
 ) -> Result<Result<Text, ReportRefusal>, Stop>
     ensures { let s = subject.now.survey in (f : Finders) →
-        HoldsFilters s.l.now s.v.now s.config.now f →
+        HoldsFilters s.l.now s.v.now s.config.now.filtering f →
         Went (D.world desk.old) (D.world desk.new) (list_text s.l.now.profile f s.config.now
         s.column (facts subject.now.head.now)) result }
 {

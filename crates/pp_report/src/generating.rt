@@ -53,11 +53,13 @@ pub fn generate<'x, R: Threads + Sync, D: Desk, G: Gate>(
         (reported (appended_text notes.old notes.new) result) }
     ensures notes { notes.new ≡ notes.old ++ appended_text notes.old notes.new }
     ensures stopped { OnErr result (IsFront (appended_text notes.old notes.new)
-        (notes_of D.finds (basis_of report.now l.now config.now) report.now config.now)) }
+        (notes_of D.finds (basis_of report.now l.now config.now.presentation) report.now
+        config.now.filtering)) }
 
     // What is saved is read again.
     ensures saved { report.now ≡ Proto → OnText result
-        (IsProtoBy D.finds (basis_of report.now l.now config.now) config.now) }
+        (IsProtoBy D.finds (basis_of report.now l.now config.now.presentation)
+        config.now.filtering) }
 {
     let with = Host {
         rt,

@@ -1,7 +1,7 @@
 //! What a session has of the machine.
 
 use pp_keys::HashKeys;
-use pp_model::Config;
+use pp_model::Environment;
 use pp_steal::Resources;
 use std::alloc::Global;
 
@@ -19,12 +19,12 @@ pub struct Host<'a, R, G> {
 }
 
 impl<'a, R, G> Host<'a, R, G> {
-    /// What a call on as many workers as the configuration has is lent.
-    pub fn resources(&self, config: &Config) -> Resources<'a, R> {
+    /// What a call on as many workers as this environment has is lent.
+    pub fn resources(&self, environment: &Environment) -> Resources<'a, R> {
         Resources {
             rt: self.rt,
             alloc: self.alloc,
-            workers: config.workers,
+            workers: environment.workers,
             keys: self.keys,
         }
     }

@@ -15,7 +15,7 @@ use crate::shows::{Shows, shows_for};
 use pp_base::{Gate, Memory, Text};
 use pp_count::count;
 use pp_desk::{Desk, Stop};
-use pp_model::{BaseKind, Config, Loaded, Report};
+use pp_model::{BaseKind, Config, Filtering, Loaded, Report};
 use pp_pseudo::{basis, framed_for};
 use std::alloc::Global;
 use std::mem;
@@ -42,7 +42,7 @@ pub fn prepare<R: Threads + Sync, D: Desk, G: Gate>(
         (λ answer. IfOk answer (IsPrepared D.finds l.now report.now config.now)) }
     ensures base { IfOk result (λ answer. IfOk answer (λ prepared. prepared.base ≡ base)) }
 {
-    let shows = match shows_for(with.alloc, l, report, config)? {
+    let shows = match shows_for(with.alloc, l, report, &config.presentation)? {
         Ok(shows) => shows,
         Err(refusal) => return Ok(Err(refusal)),
     };
@@ -55,7 +55,7 @@ pub fn prepare<R: Threads + Sync, D: Desk, G: Gate>(
             tagged: None,
         }));
     }
-    let tagged = match framed_for(with.alloc, with.keys, l, config) {
+    let tagged = match framed_for(with.alloc, with.keys, l, &config.presentation) {
         Ok(tagged) => tagged,
         Err(Memory) => {
             mem::drop(shows);
@@ -95,14 +95,14 @@ fn counts_for<R: Threads + Sync, D: Desk, G: Gate>(
     requires countable { IsCountable l.now.profile }
     requires column { IsColumnOf l.now.profile shows.now.column }
     ensures went { Went (D.world desk.old) (D.world desk.new)
-        (prepare_counts D.finds l.now report.now config.now (showing shows.now))
+        (prepare_counts D.finds l.now report.now config.now.filtering (showing shows.now))
         (counts_settled (showing shows.now) result) }
     ensures counted { IfOk result (λ answer. IfOk answer
         (AreCountsNoted D.finds l.now report.now config.now shows.now.column)) }
 {
     // A profile's texts are distinct, so that verdicts on them tell what is found.
     let _profile = l.profile.get();
-    let verdicts = match ask_patterns(with.alloc, l, report, config, desk)? {
+    let verdicts = match ask_patterns(with.alloc, l, report, &config.filtering, desk)? {
         Ok(verdicts) => verdicts,
         Err(refusal) => return Ok(Err(refusal)),
     };
@@ -110,7 +110,7 @@ fn counts_for<R: Threads + Sync, D: Desk, G: Gate>(
     match count(
         with.rt, with.alloc, keys, l, &verdicts, config, column, with.gate,
     ) {
-        Ok(counted) => Ok(Ok(noted(with.alloc, config, Counts { verdicts, counted })?)),
+        Ok(counted) => Ok(Ok(noted(with.alloc, &config.filtering, Counts { verdicts, counted })?)),
         Err(Memory) => {
             mem::drop(verdicts);
             Err(Stop::Memory)
@@ -119,10 +119,11 @@ fn counts_for<R: Threads + Sync, D: Desk, G: Gate>(
 }
 
 // What was counted, and its notes.
-fn noted(alloc: Global, config: &Config, counts: Counts) -> Result<(Counts, Text), Memory>
-    ensures { IfOk result (λ made. made ≡ (counts, notes_by config.now counts.counted.matched.slots)) }
+fn noted(alloc: Global, filtering: &Filtering, counts: Counts) -> Result<(Counts, Text), Memory>
+    ensures { IfOk result
+        (λ made. made ≡ (counts, notes_by filtering.now counts.counted.matched.slots)) }
 {
-    match notes_by(alloc, config, counts.counted.matched.slots.as_slice()) {
+    match notes_by(alloc, filtering, counts.counted.matched.slots.as_slice()) {
         Ok(notes) => Ok((counts, notes)),
         Err(Memory) => {
             mem::drop(counts);

@@ -10,7 +10,7 @@ ghost use Rattle.pp_report.specs.Prepared.{showing_for, in_column, in_unit, show
 use crate::ReportRefusal;
 use pp_base::Memory;
 use pp_count::column_of;
-use pp_model::{Config, Loaded, Profile, Report, ValueType, text_of};
+use pp_model::{Loaded, Presentation, Profile, Report, ValueType, text_of};
 use pp_units::{Unit, each_unit, forced_unit};
 use std::alloc::Global;
 
@@ -28,11 +28,11 @@ pub fn shows_for(
     alloc: Global,
     l: &Loaded,
     report: &Report,
-    config: &Config,
+    presentation: &Presentation,
 ) -> Result<Result<Shows, ReportRefusal>, Memory>
     requires { length l.now.profile.sample_type < 2 ^ 32 }
     ensures value { IfOk result (λ answer. result_map_both showing (λ refusal. refusal) answer
-        ≡ showing_for report.now l.now.profile config.now) }
+        ≡ showing_for report.now l.now.profile presentation.now) }
     ensures bound { IfOk result (λ answer. IfOk answer
         (λ shows. IsColumnOf l.now.profile shows.column)) }
 {
@@ -42,26 +42,27 @@ pub fn shows_for(
             unit: None,
         }));
     }
-    values_shown(alloc, l, config)
+    values_shown(alloc, l, presentation)
 }
 
 // What a report of values shows.
 fn values_shown(
     alloc: Global,
     l: &Loaded,
-    config: &Config,
+    presentation: &Presentation,
 ) -> Result<Result<Shows, ReportRefusal>, Memory>
     requires { length l.now.profile.sample_type < 2 ^ 32 }
     ensures value { IfOk result (λ answer. result_map_both showing (λ refusal. refusal) answer
-        ≡ in_column l.now.profile config.now (column_of l.now.profile config.now.sample_index)) }
+        ≡ in_column l.now.profile presentation.now
+        (column_of l.now.profile presentation.now.sample_index)) }
     ensures bound { IfOk result (λ answer. IfOk answer
         (λ shows. IsColumnOf l.now.profile shows.column)) }
 {
-    let Ok(column) = column_of(l, config) else {
+    let Ok(column) = column_of(l, presentation) else {
         return Ok(Err(ReportRefusal::BadSampleIndex));
     };
     let values = unit_text(l.profile.get(), column);
-    let Some(unit) = wanted_unit(alloc, config.unit.as_slice(), values)? else {
+    let Some(unit) = wanted_unit(alloc, presentation.unit.as_slice(), values)? else {
         return Ok(Err(ReportRefusal::UnitMismatch));
     };
     Ok(Ok(Shows { column, unit }))

@@ -25,8 +25,8 @@ use pp_base::{Gate, MatchRefusal, Memory, Text};
 use pp_count::Survey;
 use pp_dump::{saved_profile, write_raw};
 use pp_graph::{node_limit, rank, trim};
-use pp_model::{Compact, Config, Loaded};
-use pp_samples::{write_comments, write_tags_of, write_traces_of};
+use pp_model::{Compact, Loaded, Presentation};
+use pp_samples::{write_comments, write_tags, write_traces};
 use pp_steal::Resources;
 use pp_tables::write_profile_on;
 use pp_top::write_top;
@@ -45,12 +45,12 @@ pub fn limit_of_trees()
 /// The top report, whose nodes have no limit of their own.
 pub fn top(alloc: Global, subject: &Subject<'_, '_>) -> Result<Text, Memory>
     ensures { let s = subject.now.survey in (f : Finders) →
-        HoldsFilters s.l.now s.v.now s.config.now f →
+        HoldsFilters s.l.now s.v.now s.config.now.filtering f →
         IfOk result (λ text. text ≡ top_text s.l.now.profile f s.config.now s.column
-        (node_limit s.config.now.nodecount 0) (facts subject.now.head.now)) }
+        (node_limit s.config.now.presentation.nodecount 0) (facts subject.now.head.now)) }
 {
     let s = &subject.survey;
-    let limit = limit_of(s.config, 0);
+    let limit = limit_of(&s.config.presentation, 0);
     let ranked = rank(alloc, s.l, s.counted, s.config, limit)?;
     let mut text = Text::new(alloc);
     write_top(alloc, s.l, s.counted, &ranked, subject.head, &mut text)?;
@@ -60,12 +60,12 @@ pub fn top(alloc: Global, subject: &Subject<'_, '_>) -> Result<Text, Memory>
 /// The account report, whose nodes have no limit of their own.
 pub fn account(alloc: Global, subject: &Subject<'_, '_>) -> Result<Text, Memory>
     ensures { let s = subject.now.survey in (f : Finders) →
-        HoldsFilters s.l.now s.v.now s.config.now f →
+        HoldsFilters s.l.now s.v.now s.config.now.filtering f →
         IfOk result (λ text. text ≡ account_text s.l.now.profile f s.config.now s.column
-        (node_limit s.config.now.nodecount 0) (facts subject.now.head.now)) }
+        (node_limit s.config.now.presentation.nodecount 0) (facts subject.now.head.now)) }
 {
     let s = &subject.survey;
-    let limit = limit_of(s.config, 0);
+    let limit = limit_of(&s.config.presentation, 0);
     let mut text = Text::new(alloc);
     write_account(alloc, s, limit, subject.head, &mut text)?;
     Ok(text)
@@ -77,12 +77,12 @@ pub fn tree<R: Threads + Sync, G: Gate>(
     subject: &Subject<'_, '_>,
 ) -> Result<Text, Memory>
     ensures { let s = subject.now.survey in (f : Finders) →
-        HoldsFilters s.l.now s.v.now s.config.now f →
+        HoldsFilters s.l.now s.v.now s.config.now.filtering f →
         IfOk result (λ text. text ≡ tree_text s.l.now.profile f s.config.now s.column
-        (node_limit s.config.now.nodecount TREE_NODES) (facts subject.now.head.now)) }
+        (node_limit s.config.now.presentation.nodecount TREE_NODES) (facts subject.now.head.now)) }
 {
     let (alloc, s) = (with.alloc, &subject.survey);
-    let limit = limit_of(s.config, TREE_NODES);
+    let limit = limit_of(&s.config.presentation, TREE_NODES);
     let trimmed = trim(with.rt, alloc, s, limit, with.gate)?;
     let mut text = Text::new(alloc);
     write_tree(alloc, s.l, s.counted, &trimmed, subject.head, &mut text)?;
@@ -90,10 +90,10 @@ pub fn tree<R: Threads + Sync, G: Gate>(
 }
 
 /// The most nodes of a report that has this limit of its own, where 0 is none.
-pub fn limit_of(config: &Config, own: u32) -> u32
-    ensures { result ≡ node_limit config.now.nodecount own }
+pub fn limit_of(presentation: &Presentation, own: u32) -> u32
+    ensures { result ≡ node_limit presentation.now.nodecount own }
 {
-    node_limit(config.nodecount, own)
+    node_limit(presentation.nodecount, own)
 }
 
 /// The peek report, or `NoMatch` where its pattern finds nothing.
@@ -102,7 +102,7 @@ pub fn peek<R: Threads + Sync, G: Gate>(
     subject: &Subject<'_, '_>,
 ) -> Result<Result<Text, ReportRefusal>, Memory>
     ensures { let s = subject.now.survey in (f : Finders) →
-        HoldsFilters s.l.now s.v.now s.config.now f →
+        HoldsFilters s.l.now s.v.now s.config.now.filtering f →
         IfOk result (λ outcome. outcome ≡ peek_outcome s.l.now.profile f s.config.now s.column
         (facts subject.now.head.now)) }
 {
@@ -121,13 +121,13 @@ pub fn traces<R: Threads + Sync, G: Gate>(
     subject: &Subject<'_, '_>,
 ) -> Result<Text, Memory>
     ensures { let s = subject.now.survey in (f : Finders) →
-        HoldsFilters s.l.now s.v.now s.config.now f →
+        HoldsFilters s.l.now s.v.now s.config.now.filtering f →
         IfOk result (λ text. text ≡ traces_text s.l.now.profile f s.config.now s.column
         (facts subject.now.head.now)) }
 {
     let alloc = with.alloc;
     let mut text = Text::new(alloc);
-    write_traces_of(
+    write_traces(
         with.rt,
         alloc,
         &subject.survey,
@@ -141,20 +141,20 @@ pub fn traces<R: Threads + Sync, G: Gate>(
 /// The tags report.
 pub fn tags(alloc: Global, subject: &Subject<'_, '_>) -> Result<Text, Memory>
     ensures { let s = subject.now.survey in (f : Finders) →
-        HoldsFilters s.l.now s.v.now s.config.now f →
+        HoldsFilters s.l.now s.v.now s.config.now.filtering f →
         IfOk result (λ text. text ≡ tags_text s.l.now.profile f s.config.now s.column
         (facts subject.now.head.now)) }
 {
     let mut text = Text::new(alloc);
-    write_tags_of(alloc, &subject.survey, subject.head, &mut text)?;
+    write_tags(alloc, &subject.survey, subject.head, &mut text)?;
     Ok(text)
 }
 
 // The saved profile.
 fn saved<R: Threads + Sync>(with: &Resources<'_, R>, survey: &Survey<'_>) -> Result<Compact, Memory>
     ensures saved { let s = survey.now in (f : Finders) →
-        HoldsFilters s.l.now s.v.now s.config.now f →
-        IfOk result (λ q. q ≡ saved s.l.now.profile f s.config.now) }
+        HoldsFilters s.l.now s.v.now s.config.now.filtering f →
+        IfOk result (λ q. q ≡ saved s.l.now.profile f s.config.now.filtering) }
     ensures lasts { IfOk result IsLasting }
     ensures starts { IfOk result (λ _.
         AllByRecursion (λ m. m.start < 2 ^ 64) survey.now.l.now.profile.mapping) }
@@ -168,10 +168,10 @@ pub fn raw<R: Threads + Sync, G: Gate>(
     survey: &Survey<'_>,
 ) -> Result<Text, Memory>
     ensures { let s = survey.now in (f : Finders) →
-        HoldsFilters s.l.now s.v.now s.config.now f →
-        IfOk result (λ text. text ≡ raw_text (saved s.l.now.profile f s.config.now)) }
+        HoldsFilters s.l.now s.v.now s.config.now.filtering f →
+        IfOk result (λ text. text ≡ raw_text (saved s.l.now.profile f s.config.now.filtering)) }
 {
-    let with = with.resources(survey.config);
+    let with = with.resources(&survey.config.environment);
     let saved = saved(&with, survey)?;
     let mut text = Text::new(with.alloc);
     write_raw(&with, &saved, &mut text)?;
@@ -193,12 +193,12 @@ pub fn proto<R: Threads + Sync, G: Gate>(
     survey: &Survey<'_>,
 ) -> Result<Text, Memory>
     ensures { let s = survey.now in (f : Finders) →
-        HoldsFilters s.l.now s.v.now s.config.now f →
-        IfOk result (IsProtoOf s.l.now.profile f s.config.now) }
+        HoldsFilters s.l.now s.v.now s.config.now.filtering f →
+        IfOk result (IsProtoOf s.l.now.profile f s.config.now.filtering) }
 {
     // The profile keeps the table rules.
     let _profile = survey.l.profile.get();
-    let with = with.resources(survey.config);
+    let with = with.resources(&survey.config.environment);
     let saved = saved(&with, survey)?;
     write_profile_on(&with, saved.valid())
 }

@@ -20,11 +20,11 @@ pub fn tree_report<R: Threads + Sync, G: Gate>(
     subject: &Subject<'_, '_>,
 ) -> Result<Text, Memory>
     ensures { let s = subject.now.survey in (f : Finders) →
-        HoldsFilters s.l.now s.v.now s.config.now f →
+        HoldsFilters s.l.now s.v.now s.config.now.filtering f →
         IfOk result (λ text. text ≡ tree_report_text s.l.now.profile f s.config.now s.column
         (facts subject.now.head.now)) }
 {
-    if subject.survey.config.path_tree {
+    if subject.survey.config.presentation.path_tree {
         call_tree(with, subject)
     } else {
         tree(with, subject)
@@ -37,7 +37,7 @@ fn call_tree<R: Threads + Sync, G: Gate>(
     subject: &Subject<'_, '_>,
 ) -> Result<Text, Memory>
     ensures { let s = subject.now.survey in (f : Finders) →
-        HoldsFilters s.l.now s.v.now s.config.now f →
+        HoldsFilters s.l.now s.v.now s.config.now.filtering f →
         IfOk result (λ text. text ≡ calltree_text s.l.now.profile f s.config.now s.column
         (facts subject.now.head.now)) }
 {

@@ -10,5 +10,5 @@ mod places;
 mod stacks;
 
 pub use copying::{no_items, sample_with, with_cut};
-pub use places::{Cut, Places, place_line, places_of};
+pub use places::{CutKey, Places, place_line, places_of};
 pub use stacks::place_stack;

@@ -21,14 +21,14 @@ pub struct Places {
     /// Those of the profile, in its order, and behind them those that were cut from them.
     pub locations: List<Location>,
     /// The places of the locations that were cut, the last one of each key.
-    pub cuts: HashMap<Cut, u64, HashKeys>,
+    pub cuts: HashMap<CutKey, u64, HashKeys>,
     /// The lines of the group that is placed.
     pub lines: List<Line>,
 }
 
 /// What a location was cut by. Two cuts may have one such key, so the lines are compared too.
 #[derive(Clone, Copy, Debug, PartialEq, Eq, Hash, Drop)]
-pub struct Cut {
+pub struct CutKey {
     /// The place of the location that is cut, or the place behind all of them.
     pub place: u64,
     /// The hash of the lines that are left.
@@ -185,15 +185,15 @@ fn are_same(lines: &[Line], others: &[Line]) -> bool
 }
 
 // By what the location at `place` is cut to the lines that were read.
-fn cut_at(places: &Places, place: u64) -> Cut {
-    Cut {
+fn cut_at(places: &Places, place: u64) -> CutKey {
+    CutKey {
         place,
         lines: places.cuts.hasher().hash_one(places.lines.as_slice()),
     }
 }
 
 // The id of the location that was cut so, where it is `location` with the lines that were read.
-fn cut_before(places: &Places, cut: Cut, location: &Location) -> Option<u64>
+fn cut_before(places: &Places, cut: CutKey, location: &Location) -> Option<u64>
     ensures { IfSome result (IsEntry places.now.locations
         (with_lines location.now places.now.lines)) }
 {
@@ -204,7 +204,7 @@ fn cut_before(places: &Places, cut: Cut, location: &Location) -> Option<u64>
 }
 
 // Keeps the place of the location that was cut so.
-fn keep(places: &mut Places, cut: Cut, at: u64) -> Result<(), Memory>
+fn keep(places: &mut Places, cut: CutKey, at: u64) -> Result<(), Memory>
     ensures { places.new.locations ≡ places.old.locations }
 {
     places.cuts.insert(cut, at)?;

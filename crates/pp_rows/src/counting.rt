@@ -12,16 +12,16 @@ const CHAIN: [&[u8]; 9] = [
 
 // What the samples of a generated profile add up to in nanoseconds: flat and cum of each function of the chain.
 #[derive(Drop)]
-pub(crate) struct Sums {
+pub(crate) struct ChainSums {
     flat: [i64; 9],
     cum: [i64; 9],
 }
 
-impl Sums {
+impl ChainSums {
     // Sample number i has the value (i mod 8 + 1) * 1,000 and the leaf fnd, where d is i mod 8. All functions before it
     // in the chain call it.
-    pub(crate) fn of(samples: u64) -> Sums {
-        let mut sums = Sums {
+    pub(crate) fn of(samples: u64) -> ChainSums {
+        let mut sums = ChainSums {
             flat: [0; 9],
             cum: [0; 9],
         };
@@ -87,5 +87,5 @@ fn are_counted<R: Threads + Sync>(
 ) -> Result<bool, Fail> {
     let words = format!(in alloc; "-tree -unit=ns -gen={samples} -workers={workers}")?;
     let figures = figures_of(rt, alloc, words.as_str())?;
-    Ok(Sums::of(samples).are_in(&figures))
+    Ok(ChainSums::of(samples).are_in(&figures))
 }

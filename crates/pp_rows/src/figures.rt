@@ -10,7 +10,7 @@ use std::thread::Threads;
 
 // A node, without a caller, or an edge. An edge has no cum.
 #[derive(Drop)]
-pub(crate) struct Entry {
+pub(crate) struct FigureRow {
     pub(crate) caller: Text,
     pub(crate) name: Text,
     flat: i64,
@@ -21,7 +21,7 @@ pub(crate) struct Entry {
 #[derive(Drop)]
 pub(crate) struct Figures {
     pub(crate) total: i64,
-    pub(crate) entries: List<Entry>,
+    pub(crate) entries: List<FigureRow>,
 }
 
 // The figures of the tree report that these words ask for.
@@ -81,7 +81,7 @@ impl Figures {
     fn put(&mut self, alloc: Global, ends: (&str, &str), numbers: &str) -> Result<(), Memory> {
         let caller = Text::from_slice(alloc, ends.0.as_bytes())?;
         let name = Text::from_slice(alloc, ends.1.as_bytes())?;
-        self.entries.push(Entry {
+        self.entries.push(FigureRow {
             caller,
             name,
             flat: number(word(numbers, 0)),

@@ -40,7 +40,7 @@ fn is_seen<R: Threads + Sync>(rt: &R, alloc: Global, law: &str) -> Result<bool, 
     let (first, others) = reports.split_once('|').ok_or("one report")?;
     let (second, third) = others.split_once('|').ok_or("two reports")?;
     let (of_second, of_third) = times.split_once(' ').ok_or("one number")?;
-    let seen = Seen {
+    let seen = ThreeReports {
         of_second: of_second.parse::<i64>().ok().ok_or("no number")?,
         of_third: of_third.parse::<i64>().ok().ok_or("no number")?,
         first: all_figures(rt, alloc, first)?,
@@ -66,7 +66,7 @@ fn all_figures<R: Threads + Sync>(rt: &R, alloc: Global, words: &str) -> Result<
 
 // Three reports, and how often the last two are in the first.
 #[derive(Drop)]
-struct Seen {
+struct ThreeReports {
     first: Figures,
     second: Figures,
     third: Figures,
@@ -74,7 +74,7 @@ struct Seen {
     of_third: i64,
 }
 
-impl Seen {
+impl ThreeReports {
     // Whether a report has a figure that isn't 0. A law over figures that are all 0 would show nothing.
     fn has_figures(&self) -> bool {
         self.first.has_figures() || self.second.has_figures()

@@ -7,7 +7,7 @@ ghost use Rattle.pp_model.specs.Sizes.{IsCountable};
 ghost use Rattle.pp_count.specs.Counted.{CanCount};
 ghost use Rattle.pp_count.specs.Table.{IsKeyTable};
 
-use crate::counting::Sums;
+use crate::counting::ChainSums;
 use crate::running::words_of;
 use pp_base::{CalmFiles, CalmSink, CalmSource, List, Memory, Text};
 use pp_count::{KeyTable, Part, column_of, count_piece, join_parts, key_table};
@@ -26,7 +26,7 @@ type Loading = Result<Result<Loaded, LoadRefusal>, Stop>;
 
 #[test]
 fn parts_join_to_the_whole(rt: HostRuntime) -> Result<(), Fail> {
-    assert!(rt; are_joined(&rt, rt.alloc(), "-top -gen=1500", &Sums::of(1500))?);
+    assert!(rt; are_joined(&rt, rt.alloc(), "-top -gen=1500", &ChainSums::of(1500))?);
     Ok(())
 }
 
@@ -35,7 +35,7 @@ fn are_joined<R: Threads + Sync>(
     rt: &R,
     alloc: Global,
     words: &str,
-    sums: &Sums,
+    sums: &ChainSums,
 ) -> Result<bool, Fail> {
     let words = words_of(alloc, words)?;
     let plan = read_words(alloc, words.as_slice()).ok().ok_or("no plan")?;
@@ -48,7 +48,7 @@ fn plan_has_sums<R: Threads + Sync>(
     rt: &R,
     alloc: Global,
     plan: &Plan,
-    sums: &Sums,
+    sums: &ChainSums,
 ) -> Result<bool, Fail> {
     let mut files = CalmFiles::new(alloc, List::new(alloc), List::new(alloc));
     let mut input = CalmSource::new(Text::new(alloc), 1);
@@ -71,7 +71,7 @@ fn plan_has_sums<R: Threads + Sync>(
     answer
 }
 
-fn have_sums(alloc: Global, loading: &Loading, sums: &Sums) -> Result<bool, Fail>
+fn have_sums(alloc: Global, loading: &Loading, sums: &ChainSums) -> Result<bool, Fail>
     requires { IfOk loading.now (λ loading. IfOk loading (λ l. IsCountable l.profile)) }
 {
     let Ok(Ok(l)) = loading else {
@@ -86,15 +86,20 @@ fn have_sums(alloc: Global, loading: &Loading, sums: &Sums) -> Result<bool, Fail
     answer
 }
 
-fn has_sums_under(alloc: Global, l: &Loaded, config: &Config, sums: &Sums) -> Result<bool, Fail>
+fn has_sums_under(
+    alloc: Global,
+    l: &Loaded,
+    config: &Config,
+    sums: &ChainSums,
+) -> Result<bool, Fail>
     requires countable { IsCountable l.now.profile }
     requires standard { config.now ≡ defaults }
     requires pieces { 1024 < length l.now.profile.sample }
 {
-    let Ok(column) = column_of(l, config) else {
+    let Ok(column) = column_of(l, &config.presentation) else {
         return Err("no column".into());
     };
-    let table = key_table(alloc, HashKeys::fixed(), l, config)?;
+    let table = key_table(alloc, HashKeys::fixed(), l, config.grouping)?;
     let verdicts = no_verdicts(alloc);
     let part = joined_part(alloc, l, &verdicts, config, column, &table);
     mem::drop(verdicts);
@@ -114,7 +119,7 @@ fn are_all(kept: &[u32], samples: usize) -> bool {
 }
 
 // Whether each key that occurs has the sums of its function's name.
-fn are_sums(l: &Loaded, table: &KeyTable, part: &Part, sums: &Sums) -> bool {
+fn are_sums(l: &Loaded, table: &KeyTable, part: &Part, sums: &ChainSums) -> bool {
     for sum in part.sums.as_slice() {
         if sums.of_name(name_of(l, table, sum.key)) != Some((sum.flat, sum.cum)) {
             return false;
@@ -132,8 +137,8 @@ fn joined_part(
     column: Option<u32>,
     table: &KeyTable,
 ) -> Result<Part, Memory>
-    requires can { CanCount l.now.profile v.now config.now column }
-    requires table { IsKeyTable l.now.profile config.now table.now }
+    requires can { CanCount l.now.profile v.now config.now.filtering column }
+    requires table { IsKeyTable l.now.profile config.now.grouping table.now }
     requires pieces { 1024 < length l.now.profile.sample }
 {
     let mut parts = List::new(alloc);

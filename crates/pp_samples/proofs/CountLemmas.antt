@@ -7,7 +7,7 @@ use Rattle.std.proofs.lemmas.Bool.Decides.{Decides-int_eq}
 use Rattle.pp_model.specs.declared.profile.Label.{Label}
 use Rattle.pp_model.specs.declared.profile.Profile.{Profile}
 use Rattle.pp_count.specs.Sums.{Seen}
-use Rattle.pp_samples.specs.declared.key_table.KeyTable.{KeyTable}
+use Rattle.pp_samples.specs.declared.key_table.TagKeyTable.{TagKeyTable}
 use Rattle.pp_samples.specs.declared.key_table.TagPlace.{TagPlace}
 use Rattle.pp_samples.specs.TagLines.{TagTexts, tag_texts}
 use Rattle.pp_samples.specs.Places.{HasTagPlace, KeepsTagPlaces}
@@ -58,7 +58,7 @@ known_label a b same =
     }
 
 -- one place more is known
-pub known_more : (p : Profile) (old new : KeyTable) (before after : Label → Option TagPlace) (label : Label) (place : TagPlace)
+pub known_more : (p : Profile) (old new : TagKeyTable) (before after : Label → Option TagPlace) (label : Label) (place : TagPlace)
     → ((l : Label) (w : TagPlace) → before l ≡ Some w → HasTagPlace old (tag_texts p l) w) → KeepsTagPlaces old new → HasTagPlace new (tag_texts p label) place
     → ((q : Label) → after q ≡ cond (same_label_parts label q) (Some place) (before q)) → (q : Label) (w : TagPlace) → after q ≡ Some w → HasTagPlace new (tag_texts p q) w
 known_more p old new before after label place known keeps own updated q w found = by (same_label_parts label q) refl (sym (updated q) ∙ found)

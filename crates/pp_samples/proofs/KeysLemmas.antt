@@ -9,7 +9,7 @@ use Rattle.std.proofs.lemmas.Slice.Eq.{bytes_eq-Decides}
 use Rattle.pp_model.specs.FirstSight.{seen_with, distinct, place_of}
 use Rattle.pp_model.proofs.FirstSightLemmas.{distinct_push}
 use Rattle.pp_samples.specs.declared.tag_table.TagTable.{TagTable}
-use Rattle.pp_samples.specs.declared.key_table.KeyTable.{KeyTable}
+use Rattle.pp_samples.specs.declared.key_table.TagKeyTable.{TagKeyTable}
 use Rattle.pp_samples.specs.TagLines.{TagTexts, same_tag, has_label_key}
 use Rattle.pp_samples.specs.Names.{key_tag}
 use Rattle.pp_samples.specs.Tables.{Event, key_event, events_of_key, IsTableOf, AreKeys, Roomed, has, made, AddsAt, AreSmall}
@@ -86,7 +86,7 @@ module _ (events : List Event) (e : Event) (names : List TagTexts) (tables roome
       })
 
 -- One event more.
-pub keys_more : (events : List Event) (e : Event) (old : KeyTable) (roomed : List TagTable) (new : KeyTable) (n : ℕ) → AreKeys events old
+pub keys_more : (events : List Event) (e : Event) (old : TagKeyTable) (roomed : List TagTable) (new : TagKeyTable) (n : ℕ) → AreKeys events old
     → IsTableOf (map key_event events ++ key_event e ∷ []) new.keys → n ≡ place_of same_tag old.keys.names (key_tag e.tag.key)
     → Roomed old.tags.items roomed n → AddsAt roomed n e new.tags.items → AreSmall (events ++ e ∷ []) → AreKeys (events ++ e ∷ []) new
 keys_more events e old roomed new n is sums at room adds small =

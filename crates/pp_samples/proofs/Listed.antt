@@ -23,7 +23,7 @@ use Rattle.pp_model.specs.FirstSight.{seen_with, seen_after, distinct, place_of}
 use Rattle.pp_model.proofs.FirstSightLemmas.{distinct_apart, distinct-map, all-seen_after}
 use Rattle.pp_count.specs.Sums.{Seen}
 use Rattle.pp_count.proofs.EachOnce.{each_once_is}
-use Rattle.pp_samples.specs.declared.key_table.KeyTable.{KeyTable}
+use Rattle.pp_samples.specs.declared.key_table.TagKeyTable.{TagKeyTable}
 use Rattle.pp_samples.specs.declared.tag_lines.TagLine.{TagLine}
 use Rattle.pp_samples.specs.TagLines.{TagTexts, bytes_cmp, shown_tag_cmp, same_tag, has_label_key, all_tags, all_keys, key_sum, key_size, tag_sum, line_cmp, key_tags, value_line}
 use Rattle.pp_samples.specs.Names.{name_texts, key_tag}
@@ -218,7 +218,7 @@ module _ (samples : List (Seen TagTexts)) where
       all_keys_tags [] = tt
       all_keys_tags (k ∷ ks) = (refl, all_keys_tags ks)
 
-  module _ (keys : KeyTable) (is : AreKeys events keys) (before lines : List TagLine) (are : map line_entry before ≡ map (event_entry key_events) (table_tags key_events))
+  module _ (keys : TagKeyTable) (is : AreKeys events keys) (before lines : List TagLine) (are : map line_entry before ≡ map (event_entry key_events) (table_tags key_events))
       (moved : IsPermutation before lines) (sorted : IsSortedBy (λ a b. is_lt (line_key_cmp a b)) lines) where
     names_are : keys.keys.names ≡ table_tags key_events
     names_are = is.sums.tags

@@ -6,7 +6,7 @@ use Rattle.std.proofs.Math.Seq.{get_or-append_seam}
 use Rattle.pp_model.specs.FirstSight.{seen_with, place_of}
 use Rattle.pp_samples.specs.declared.tag_table.TagSum.{TagSum}
 use Rattle.pp_samples.specs.declared.tag_table.TagTable.{TagTable}
-use Rattle.pp_samples.specs.declared.key_table.KeyTable.{KeyTable}
+use Rattle.pp_samples.specs.declared.key_table.TagKeyTable.{TagKeyTable}
 use Rattle.pp_samples.specs.declared.key_table.TagPlace.{TagPlace}
 use Rattle.pp_samples.specs.TagLines.{TagTexts, same_tag}
 use Rattle.pp_samples.specs.Names.{key_tag}
@@ -107,7 +107,7 @@ padded_sum events x names sums padded n is at (grew past same) =
     ∙ ap (λ (k : ℕ). get_or sums k no_tag_sum) at ∙ is.added x
 
 -- Places in tables of keys of which one was made anew.
-module _ (old new : KeyTable) (roomed : List TagTable) (k : ℕ) (table : TagTable) (even : AreEven old)
+module _ (old new : TagKeyTable) (roomed : List TagTable) (k : ℕ) (table : TagTable) (even : AreEven old)
     (names : Keeps old.keys.names new.keys.names)
     (room : (j : ℕ) (d : TagTable) → j < length old.tags.items → get_or roomed j d ≡ get_or old.tags.items j d)
     (inside : k < length roomed) (is : new.tags.items ≡ set roomed k table)
@@ -141,7 +141,7 @@ module _ (old new : KeyTable) (roomed : List TagTable) (k : ℕ) (table : TagTab
       }
 
 -- the place of a tag that was just seen
-pub own_is : (old new : KeyTable) (roomed : List TagTable) (k t : ℕ) (table : TagTable) (tag : TagTexts) (place : TagPlace) → place.key ≡ k → place.tag ≡ t
+pub own_is : (old new : TagKeyTable) (roomed : List TagTable) (k t : ℕ) (table : TagTable) (tag : TagTexts) (place : TagPlace) → place.key ≡ k → place.tag ≡ t
     → k ≡ place_of same_tag old.keys.names (key_tag tag.key) → new.keys.names ≡ seen_with same_tag old.keys.names (key_tag tag.key)
     → k < length roomed → new.tags.items ≡ set roomed k table → ((d : TagTable) → t ≡ place_of same_tag (get_or roomed k d).names tag)
     → ((d : TagTable) → table.names ≡ seen_with same_tag (get_or roomed k d).names tag) → HasTagPlace new tag place

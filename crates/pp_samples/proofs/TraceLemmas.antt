@@ -23,31 +23,31 @@ parted (x ∷ xs) d h = ap (λ ys. x ∷ ys) (take_all (length (x ∷ xs) - 1) x
 
 module _ (p : Profile) (f : Finders) (config : Config) (column : Option ℕ) (unit : Shown) where
   -- the lines of a sample, by the keys that are left of it
-  trace_by : (s : Sample) (stack : Option (List Frame)) (kept : Bool) (keys : List Written) → option_map (keys_of_stack p config) stack ≡ kept_if kept keys
-      → option_map_or (λ frames. trace_of_stack p f config column unit s (keys_of_stack p config frames)) stack []
-      ≡ option_map_or (trace_of_stack p f config column unit s) (kept_if kept keys) []
-  trace_by s None kept keys is = ap (λ (o : Option (List Written)). option_map_or (trace_of_stack p f config column unit s) o []) is
-  trace_by s (Some frames) kept keys is = ap (λ (o : Option (List Written)). option_map_or (trace_of_stack p f config column unit s) o []) is
+  trace_by : (s : Sample) (stack : Option (List Frame)) (kept : Bool) (keys : List Written) → option_map (keys_of_stack p config.grouping) stack ≡ kept_if kept keys
+      → option_map_or (λ frames. trace_of_stack p f config.presentation column unit s (keys_of_stack p config.grouping frames)) stack []
+      ≡ option_map_or (trace_of_stack p f config.presentation column unit s) (kept_if kept keys) []
+  trace_by s None kept keys is = ap (λ (o : Option (List Written)). option_map_or (trace_of_stack p f config.presentation column unit s) o []) is
+  trace_by s (Some frames) kept keys is = ap (λ (o : Option (List Written)). option_map_or (trace_of_stack p f config.presentation column unit s) o []) is
 
-  pub trace_seen : (s : Sample) (kept : Bool) (keys : List Written) → option_map (keys_of_stack p config) (filtered_stack p f config s) ≡ kept_if kept keys
-      → trace_of p f config column unit s ≡ option_map_or (trace_of_stack p f config column unit s) (kept_if kept keys) []
-  trace_seen s kept keys is = trace_by s (filtered_stack p f config s) kept keys is
+  pub trace_seen : (s : Sample) (kept : Bool) (keys : List Written) → option_map (keys_of_stack p config.grouping) (filtered_stack p f config.filtering s) ≡ kept_if kept keys
+      → trace_of p f config column unit s ≡ option_map_or (trace_of_stack p f config.presentation column unit s) (kept_if kept keys) []
+  trace_seen s kept keys is = trace_by s (filtered_stack p f config.filtering s) kept keys is
 
   -- a sample that the filters drop has no lines
   one_traced : (s : Sample) (stack : Option (List Frame)) (xs : List Sample) (rest : List ℕ) → rest ≡ flat_map (trace_of p f config column unit) xs
-      → filtered_stack p f config s ≡ stack
-      → option_map_or (λ frames. trace_of_stack p f config column unit s (keys_of_stack p config frames)) stack [] ++ rest
+      → filtered_stack p f config.filtering s ≡ stack
+      → option_map_or (λ frames. trace_of_stack p f config.presentation column unit s (keys_of_stack p config.grouping frames)) stack [] ++ rest
       ≡ flat_map (trace_of p f config column unit) (cond (is_some stack) (s ∷ xs) xs)
   one_traced s None xs rest same is = same
   one_traced s (Some frames) xs rest same is =
-      ap (λ (r : List ℕ). trace_of_stack p f config column unit s (keys_of_stack p config frames) ++ r) same
-      ∙ ap (λ (o : Option (List Frame)). option_map_or (λ x. trace_of_stack p f config column unit s (keys_of_stack p config x)) o [] ++ flat_map (trace_of p f config column unit) xs) (sym is)
+      ap (λ (r : List ℕ). trace_of_stack p f config.presentation column unit s (keys_of_stack p config.grouping frames) ++ r) same
+      ∙ ap (λ (o : Option (List Frame)). option_map_or (λ x. trace_of_stack p f config.presentation column unit s (keys_of_stack p config.grouping x)) o [] ++ flat_map (trace_of p f config column unit) xs) (sym is)
 
-  all_traced : (xs : List Sample) → flat_map (trace_of p f config column unit) xs ≡ flat_map (trace_of p f config column unit) (filtered_samples p f config xs)
+  all_traced : (xs : List Sample) → flat_map (trace_of p f config column unit) xs ≡ flat_map (trace_of p f config column unit) (filtered_samples p f config.filtering xs)
   all_traced [] = refl
-  all_traced (s ∷ xs) = one_traced s (filtered_stack p f config s) (filtered_samples p f config xs) _ (all_traced xs) refl
+  all_traced (s ∷ xs) = one_traced s (filtered_stack p f config.filtering s) (filtered_samples p f config.filtering xs) _ (all_traced xs) refl
 
   -- The lines of all samples are those of the samples with these numbers.
-  pub traced_kept : (kept : List ℕ) → kept ≡ filtered_from p f config 0 p.sample
+  pub traced_kept : (kept : List ℕ) → kept ≡ filtered_from p f config.filtering 0 p.sample
       → flat_map (trace_of p f config column unit) p.sample ≡ flat_map (trace_of p f config column unit) (samples_at p kept)
-  traced_kept kept is = all_traced p.sample ∙ ap (flat_map (trace_of p f config column unit)) (sym (kept_samples p f config kept is))
+  traced_kept kept is = all_traced p.sample ∙ ap (flat_map (trace_of p f config column unit)) (sym (kept_samples p f config.filtering kept is))

@@ -4,7 +4,7 @@ use Rattle.pp_model.specs.declared.profile.Profile.{Profile}
 use Rattle.pp_grain.specs.declared.key.Key.{Key}
 use Rattle.pp_count.specs.Table.{written_key}
 use Rattle.pp_samples.specs.declared.frame_lines.FrameLines.{FrameLines}
-use Rattle.pp_samples.specs.declared.frame_lines.Place.{Place}
+use Rattle.pp_samples.specs.declared.frame_lines.LinePlace.{LinePlace}
 use Rattle.pp_samples.specs.Traces.{frame_line}
 
 -- the line of the key with the number, below nothing
@@ -12,11 +12,11 @@ abbrev pub bare_line : Profile → List Key → ℕ → List ℕ
 bare_line p names n = frame_line [] (written_key p names n)
 
 -- These bytes stand at the place.
-pub record StandsAt (text : List ℕ) (place : Place) (bytes : List ℕ) : Type 0 where
+pub record StandsAt (text : List ℕ) (place : LinePlace) (bytes : List ℕ) : Type 0 where
   pub within : place.start + place.len ≤ length text
   pub are : take place.len (drop place.start text) ≡ bytes
 
 -- Each line that is made is that of its key.
 pub record AreFrameLines (p : Profile) (names : List Key) (made : FrameLines) : Type 0 where
-  pub each : (n : ℕ) (d : Place) → n < length made.places.items
+  pub each : (n : ℕ) (d : LinePlace) → n < length made.places.items
       → StandsAt made.text (slice_index_or made.places.items n d) (bare_line p names n)

@@ -13,8 +13,8 @@ survey_profile survey = survey.l.now.profile
 
 -- the verdicts are what these patterns find
 abbrev pub FindsInSurvey : Survey → Finders → Type 0
-FindsInSurvey survey f = HoldsFilters survey.l.now survey.v.now survey.config.now f
+FindsInSurvey survey f = HoldsFilters survey.l.now survey.v.now survey.config.now.filtering f
 
 -- the sample with its selected value and the tags that are shown of it
 abbrev pub survey_tagged : Survey → Finders → Sample → Seen TagTexts
-survey_tagged survey f s = sample_with_tags (survey_profile survey) f survey.config.now survey.column s
+survey_tagged survey f s = sample_with_tags (survey_profile survey) f survey.config.now.presentation survey.column s

@@ -7,7 +7,7 @@ use Rattle.pp_model.specs.FirstSight.{distinct, place_of}
 use Rattle.pp_count.specs.Sums.{Seen}
 use Rattle.pp_samples.specs.declared.tag_table.TagSum.{TagSum}
 use Rattle.pp_samples.specs.declared.tag_table.TagTable.{TagTable}
-use Rattle.pp_samples.specs.declared.key_table.KeyTable.{KeyTable}
+use Rattle.pp_samples.specs.declared.key_table.TagKeyTable.{TagKeyTable}
 use Rattle.pp_samples.specs.TagLines.{TagTexts, tag_texts, same_tag, has_label_key}
 use Rattle.pp_samples.specs.Names.{key_tag}
 
@@ -68,7 +68,7 @@ abbrev pub events_of_key : List ℕ → List Event → List Event
 events_of_key key events = filter (λ e. has_label_key key e.tag) events
 
 -- The keys of these events have their sums, and each has the table of its own tags.
-pub record AreKeys (events : List Event) (keys : KeyTable) : Type 0 where
+pub record AreKeys (events : List Event) (keys : TagKeyTable) : Type 0 where
   pub sums : IsTableOf (map key_event events) keys.keys
   pub count : length keys.tags.items ≡ length keys.keys.names
   pub tables : (key : List ℕ) → (k : ℕ) → (d : TagTable) → k ≡ place_of same_tag keys.keys.names (key_tag key)

@@ -9,6 +9,7 @@ use Rattle.pp_model.specs.declared.config.Config.{Config}
 use Rattle.pp_model.specs.declared.profile.Label.{Label}
 use Rattle.pp_model.specs.declared.profile.Sample.{Sample}
 use Rattle.pp_model.specs.declared.profile.Profile.{Profile}
+use Rattle.pp_model.specs.declared.presentation.Presentation.{Presentation}
 use Rattle.pp_model.specs.Finders.{Finders}
 use Rattle.pp_units.specs.Shown.{Shown}
 use Rattle.pp_units.specs.Numbers.{value_text, percent_text}
@@ -66,16 +67,16 @@ shown_tag_cmp =
     (on (λ t. t.unit) bytes_cmp)
 
 -- the sample with its selected value and the tags that are shown of it
-abbrev pub sample_with_tags : Profile → Finders → Config → Option ℕ → Sample → Seen TagTexts
-sample_with_tags p f config column s = record {
-  value = selected column config.divide_by s;
+abbrev pub sample_with_tags : Profile → Finders → Presentation → Option ℕ → Sample → Seen TagTexts
+sample_with_tags p f presentation column s = record {
+  value = selected column presentation.divide_by s;
   keys = map (tag_texts p) (shown_labels p f s.label);
 }
 
 -- the samples that the filters leave, with their values and the tags that are shown
 abbrev pub tagged_samples : Profile → Finders → Config → Option ℕ → List (Seen TagTexts)
 tagged_samples p f config column =
-    map (sample_with_tags p f config column) (filtered_samples p f config p.sample)
+    map (sample_with_tags p f config.presentation column) (filtered_samples p f config.filtering p.sample)
 
 -- the tag has the key
 abbrev pub has_label_key : List ℕ → TagTexts → Bool

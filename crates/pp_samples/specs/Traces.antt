@@ -6,6 +6,7 @@ use Rattle.pp_model.specs.declared.config.Config.{Config}
 use Rattle.pp_model.specs.declared.profile.Label.{Label}
 use Rattle.pp_model.specs.declared.profile.Sample.{Sample}
 use Rattle.pp_model.specs.declared.profile.Profile.{Profile}
+use Rattle.pp_model.specs.declared.presentation.Presentation.{Presentation}
 use Rattle.pp_model.specs.Finders.{Finders}
 use Rattle.pp_model.specs.FrameTexts.{Written}
 use Rattle.pp_units.specs.Shown.{Shown, picked}
@@ -50,17 +51,19 @@ trace_text labels value [] = []
 trace_text labels value (key ∷ keys) = trace_separator ++ labels ++ frame_lines value (key ∷ keys)
 
 -- the lines of a sample whose stack is left so
-abbrev pub trace_of_stack : Profile → Finders → Config → Option ℕ → Shown → Sample → List Written → List ℕ
-trace_of_stack p f config column unit s keys =
+abbrev pub trace_of_stack : Profile → Finders → Presentation → Option ℕ → Shown → Sample
+    → List Written → List ℕ
+trace_of_stack p f presentation column unit s keys =
     trace_text (flat_map (trace_label_line p) (shown_labels p f s.label))
-    (value_text (selected column config.divide_by s) unit) keys
+    (value_text (selected column presentation.divide_by s) unit) keys
 
 -- the lines of a sample, none where the filters drop it
 abbrev pub trace_of : Profile → Finders → Config → Option ℕ → Shown → Sample → List ℕ
 trace_of p f config column unit s =
     option_map_or
-    (λ stack. trace_of_stack p f config column unit s (keys_of_stack p config stack))
-    (filtered_stack p f config s) []
+    (λ stack. trace_of_stack p f config.presentation column unit s
+    (keys_of_stack p config.grouping stack))
+    (filtered_stack p f config.filtering s) []
 
 -- The text of the traces report.
 abbrev pub traces_text : Profile → Finders → Config → Option ℕ → Facts → List ℕ

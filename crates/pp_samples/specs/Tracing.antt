@@ -6,6 +6,7 @@ use Rattle.pp_model.specs.declared.profile.Profile.{Profile}
 use Rattle.pp_model.specs.Finders.{Finders}
 use Rattle.pp_model.specs.FrameTexts.{Written}
 use Rattle.pp_units.specs.Shown.{shown}
+use Rattle.pp_count.specs.Scope.{config_of}
 use Rattle.pp_count.specs.Seeing.{HoldsFilters}
 use Rattle.pp_count.specs.Table.{written_key}
 use Rattle.pp_count.specs.Counts.{samples_at}
@@ -26,11 +27,12 @@ IsKeyNumber t number = number < length t.scope.table.now.names
 
 -- the verdicts are what these patterns find
 abbrev pub FindsInTraces : Traces → Finders → Type 0
-FindsInTraces t f = HoldsFilters t.scope.l.now t.scope.v.now t.scope.config.now f
+FindsInTraces t f = HoldsFilters t.scope.l.now t.scope.v.now t.scope.config.now.filtering f
 
 -- the lines of a sample
 abbrev pub sample_trace : Traces → Finders → Sample → List ℕ
-sample_trace t f s = trace_of (trace_profile t) f t.scope.config.now t.scope.column (shown t.unit.now) s
+sample_trace t f s =
+    trace_of (trace_profile t) f (config_of t.scope) t.scope.column (shown t.unit.now) s
 
 -- the lines of the samples with these numbers
 abbrev pub traces_text_at : Traces → Finders → List ℕ → List ℕ

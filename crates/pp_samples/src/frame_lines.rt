@@ -17,7 +17,7 @@ const ROOM: usize = 8 << 20;
 
 /// Where a line stands in the text of many.
 #[derive(Clone, Copy, Debug)]
-pub struct Place {
+pub struct LinePlace {
     /// How many bytes stand before it.
     pub start: usize,
     /// How many bytes it has.
@@ -30,7 +30,7 @@ pub struct FrameLines {
     /// The lines, one behind another.
     pub text: Text,
     /// For each key number, where its line stands.
-    pub places: Vec<Place>,
+    pub places: Vec<LinePlace>,
 }
 
 /// The lines of the first keys, as many as this number of samples may need.
@@ -71,7 +71,7 @@ fn add_line(l: &Loaded, key: &Key, made: &mut FrameLines) -> Result<(), Memory>
     let start = made.text.len();
     put_line(l, key, &mut made.text)?;
     let len = made.text.len() - start;
-    made.places.push(Place { start, len })?;
+    made.places.push(LinePlace { start, len })?;
     Ok(())
 }
 

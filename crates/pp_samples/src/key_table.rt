@@ -12,7 +12,7 @@ use std::alloc::Global;
 
 /// Keys with their sums, and by a key's number the table of its tags.
 #[derive(Drop)]
-pub struct KeyTable {
+pub struct TagKeyTable {
     /// The keys of labels, by number.
     pub keys: TagTable,
     /// By a key's number, its tags.
@@ -29,11 +29,11 @@ pub struct TagPlace {
 }
 
 /// A table without keys.
-pub fn no_keys(alloc: Global, hash_keys: HashKeys) -> Result<KeyTable, Memory>
+pub fn no_keys(alloc: Global, hash_keys: HashKeys) -> Result<TagKeyTable, Memory>
     ensures even { IfOk result AreEven }
     ensures keys { IfOk result (λ keys. AreKeys [] keys) }
 {
-    Ok(KeyTable {
+    Ok(TagKeyTable {
         keys: no_tags(alloc, hash_keys)?,
         tags: Vec::new(alloc),
     })
@@ -43,7 +43,7 @@ pub fn no_keys(alloc: Global, hash_keys: HashKeys) -> Result<KeyTable, Memory>
 /// place. Known tags keep theirs.
 pub fn add_label(
     alloc: Global,
-    keys: &mut KeyTable,
+    keys: &mut TagKeyTable,
     key: TagName,
     tag: TagName,
     value: i64,
@@ -66,7 +66,7 @@ pub fn add_label(
 }
 
 /// Adds the value of the sample of this turn to the sums of a tag that has this place, and of its key.
-pub fn add_known_label(keys: &mut KeyTable, place: TagPlace, value: i64, turn: u64)
+pub fn add_known_label(keys: &mut TagKeyTable, place: TagPlace, value: i64, turn: u64)
     requires even { AreEven keys.old }
     requires inside { IsPlaceIn keys.old place }
     ensures even { AreEven keys.new }

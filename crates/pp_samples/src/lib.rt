@@ -20,5 +20,5 @@ mod traces;
 mod tracing;
 
 pub use comments::write_comments;
-pub use tag_lines::{write_tags, write_tags_of};
-pub use traces::{write_traces, write_traces_of};
+pub use tag_lines::write_tags;
+pub use traces::write_traces;

@@ -11,7 +11,7 @@ ghost use Rattle.pp_samples.specs.Labels.{same_label_parts};
 ghost use Rattle.pp_samples.specs.Counting.{AreSound};
 ghost use Rattle.pp_samples.specs.Surveyed.{survey_profile, FindsInSurvey, survey_tagged};
 
-use crate::key_table::{KeyTable, TagPlace, add_known_label, add_label, no_keys};
+use crate::key_table::{TagKeyTable, TagPlace, add_known_label, add_label, no_keys};
 use crate::tag_name::{key_name, tag_name};
 use indexmap::IndexMap;
 use pp_base::{List, Memory};
@@ -25,13 +25,13 @@ use std::alloc::Global;
 #[derive(Drop)]
 pub struct TagCounts {
     /// The keys and their tags so far.
-    pub keys: KeyTable,
+    pub keys: TagKeyTable,
     /// Where the tag of a label stands that was seen before.
     pub places: IndexMap<Label, TagPlace, HashKeys>,
 }
 
 /// The sums of the tags that are shown of the samples with these numbers, and of their keys.
-pub fn count_tags(alloc: Global, survey: &Survey<'_>, kept: &[u32]) -> Result<KeyTable, Memory>
+pub fn count_tags(alloc: Global, survey: &Survey<'_>, kept: &[u32]) -> Result<TagKeyTable, Memory>
     ensures even { IfOk result AreEven }
     ensures keys { (f : Finders) → FindsInSurvey survey.now f →
         AreSmall (events_from 0
@@ -82,7 +82,12 @@ fn count_sample(
         counts.new.keys) }
 {
     show_tags_into(survey.l, survey.v, s, shown)?;
-    let value = selected(survey.l, s, survey.column, survey.config.divide_by);
+    let value = selected(
+        survey.l,
+        s,
+        survey.column,
+        survey.config.presentation.divide_by,
+    );
     count_labels(
         alloc,
         survey.l.profile.get(),

@@ -6,7 +6,6 @@ ghost use Rattle.pp_units.specs.Shown.{shown};
 ghost use Rattle.pp_units.specs.Numbers.{percent_text};
 ghost use Rattle.pp_units.specs.Rows.{value_column};
 ghost use Rattle.pp_units.specs.Head.{facts};
-ghost use Rattle.pp_count.specs.Counted.{CanCount, IsCountedOf};
 ghost use Rattle.pp_count.specs.Seeing.{HoldsFilters};
 ghost use Rattle.pp_count.specs.Sums.{Seen};
 ghost use Rattle.pp_samples.specs.Names.{name_texts};
@@ -15,14 +14,13 @@ ghost use Rattle.pp_samples.specs.Tables.{Event, AreKeys, IsTableOf, events_from
 ghost use Rattle.pp_samples.specs.Places.{IsEven, EachEven, AreEven};
 ghost use Rattle.pp_samples.specs.Ranked.{line_entry, line_key, event_entry, table_tags, no_tag, entry_cmp, line_key_cmp, IsKeyLine, entry_line};
 
-use crate::key_table::KeyTable;
+use crate::key_table::TagKeyTable;
 use crate::label_lines::put_own_value;
 use crate::tag_counts::count_tags;
 use crate::tag_name::{TagName, tag_order};
 use crate::tag_table::{TagSum, TagTable};
 use pp_base::{List, Memory, Text};
-use pp_count::{Counted, Survey};
-use pp_model::{Config, Loaded, Verdicts};
+use pp_count::Survey;
 use pp_units::{Head, Small, Unit, put_right, put_value, write_percent};
 use std::alloc::Global;
 use std::cmp::Ordering;
@@ -43,40 +41,12 @@ pub struct TagLine<'a> {
 /// `Err` is want of memory, and leaves `out` as it was.
 pub fn write_tags(
     alloc: Global,
-    l: &Loaded,
-    v: &Verdicts,
-    c: &Counted,
-    config: &Config,
-    column: Option<u32>,
-    head: &Head,
-    out: &mut Text,
-) -> Result<(), Memory>
-    requires can { CanCount l.now.profile v.now config.now column }
-    requires counted { IsCountedOf l.now v.now config.now column c.now }
-    ensures ok { (f : Finders) → HoldsFilters l.now v.now config.now f →
-        OnOk result (out.new ≡ out.old
-        ++ tags_text l.now.profile f config.now column (facts head.now)) }
-    ensures err { OnErr result (out.new ≡ out.old) }
-{
-    let survey = Survey {
-        l,
-        v,
-        config,
-        column,
-        counted: c,
-    };
-    write_tags_of(alloc, &survey, head, out)
-}
-
-/// What `write_tags` does for the report.
-pub fn write_tags_of(
-    alloc: Global,
     survey: &Survey<'_>,
     head: &Head,
     out: &mut Text,
 ) -> Result<(), Memory>
     ensures ok { (f : Finders) →
-        HoldsFilters survey.now.l.now survey.now.v.now survey.now.config.now f →
+        HoldsFilters survey.now.l.now survey.now.v.now survey.now.config.now.filtering f →
         OnOk result (out.new ≡ out.old ++ tags_text survey.now.l.now.profile f
         survey.now.config.now survey.now.column (facts head.now)) }
     ensures err { OnErr result (out.new ≡ out.old) }
@@ -88,7 +58,7 @@ pub fn write_tags_of(
 }
 
 // The keys in their order, each with its tags.
-fn put_keys(alloc: Global, unit: &Unit, keys: &KeyTable, out: &mut Text) -> Result<(), Memory>
+fn put_keys(alloc: Global, unit: &Unit, keys: &TagKeyTable, out: &mut Text) -> Result<(), Memory>
     requires { AreEven keys.now }
     ensures { (samples : List (Seen TagTexts)) → AreKeys (events_from 0 samples) keys.now →
         IfOk result (λ _. out.new ≡ out.old

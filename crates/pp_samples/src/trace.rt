@@ -94,11 +94,17 @@ fn put_sample(
 // The text of the sample's value, in the place of what was there.
 fn write_own_value(t: &Traces, s: &Sample, text: &mut Text) -> Result<(), Memory>
     ensures { IfOk result (λ _. text.new ≡ value_text
-        (selected t.now.scope.column t.now.scope.config.now.divide_by s.now) (shown t.now.unit.now)) }
+        (selected t.now.scope.column t.now.scope.config.now.presentation.divide_by s.now)
+        (shown t.now.unit.now)) }
 {
     text.clear();
     let scope = &t.scope;
-    let value = selected(scope.l, s, scope.column, scope.config.divide_by);
+    let value = selected(
+        scope.l,
+        s,
+        scope.column,
+        scope.config.presentation.divide_by,
+    );
     put_value(value, t.unit, text)
 }
 

@@ -4,7 +4,6 @@ ghost use Rattle.std.specs.List.{flat_map};
 ghost use Rattle.pp_model.specs.Finders.{Finders};
 ghost use Rattle.pp_units.specs.Shown.{shown};
 ghost use Rattle.pp_units.specs.Head.{facts};
-ghost use Rattle.pp_count.specs.Counted.{CanCount, IsCountedOf};
 ghost use Rattle.pp_count.specs.Seeing.{HoldsFilters};
 ghost use Rattle.pp_samples.specs.Traces.{traces_text, trace_of};
 
@@ -13,8 +12,7 @@ use crate::subject::Traces;
 use crate::trace::SEPARATOR;
 use crate::tracing::put_all;
 use pp_base::{Gate, Memory, Text};
-use pp_count::{Counted, Scope, Survey};
-use pp_model::{Config, Loaded, Verdicts};
+use pp_count::{Scope, Survey};
 use pp_units::{Head, Unit, write_head};
 use std::alloc::Global;
 use std::mem;
@@ -27,43 +25,13 @@ use std::thread::Threads;
 pub fn write_traces<R: Threads + Sync, G: Gate>(
     rt: &R,
     alloc: Global,
-    l: &Loaded,
-    v: &Verdicts,
-    c: &Counted,
-    config: &Config,
-    column: Option<u32>,
-    head: &Head,
-    gate: &G,
-    out: &mut Text,
-) -> Result<(), Memory>
-    requires can { CanCount l.now.profile v.now config.now column }
-    requires counted { IsCountedOf l.now v.now config.now column c.now }
-    ensures ok { (f : Finders) → HoldsFilters l.now v.now config.now f →
-        OnOk result (out.new ≡ out.old
-        ++ traces_text l.now.profile f config.now column (facts head.now)) }
-    ensures err { OnErr result (out.new ≡ out.old) }
-{
-    let survey = Survey {
-        l,
-        v,
-        config,
-        column,
-        counted: c,
-    };
-    write_traces_of(rt, alloc, &survey, head, gate, out)
-}
-
-/// What `write_traces` does for the report.
-pub fn write_traces_of<R: Threads + Sync, G: Gate>(
-    rt: &R,
-    alloc: Global,
     survey: &Survey<'_>,
     head: &Head,
     gate: &G,
     out: &mut Text,
 ) -> Result<(), Memory>
     ensures ok { (f : Finders) →
-        HoldsFilters survey.now.l.now survey.now.v.now survey.now.config.now f →
+        HoldsFilters survey.now.l.now survey.now.v.now survey.now.config.now.filtering f →
         OnOk result (out.new ≡ out.old ++ traces_text survey.now.l.now.profile f
         survey.now.config.now survey.now.column (facts head.now)) }
     ensures err { OnErr result (out.new ≡ out.old) }
@@ -85,7 +53,7 @@ fn put_samples<'x, R: Threads + Sync, G: Gate>(
     lines: &mut Text,
 ) -> Result<(), Memory>
     ensures { (f : Finders) →
-        HoldsFilters survey.now.l.now survey.now.v.now survey.now.config.now f →
+        HoldsFilters survey.now.l.now survey.now.v.now survey.now.config.now.filtering f →
         IfOk result (λ _. lines.new ≡ lines.old
         ++ flat_map (trace_of survey.now.l.now.profile f survey.now.config.now survey.now.column
         (shown unit.now)) survey.now.l.now.profile.sample) }
@@ -95,6 +63,7 @@ fn put_samples<'x, R: Threads + Sync, G: Gate>(
         l: survey.l,
         v: survey.v,
         config: survey.config,
+        grouping: survey.config.grouping,
         filters: survey.filters(),
         column: survey.column,
         table: survey.table(),

@@ -63,7 +63,7 @@ pub fn put_all<'x, R: Threads + Sync, G: Gate>(
     ensures { (f : Finders) → FindsInTraces t.now f →
         IfOk result (λ _. lines.new ≡ lines.old ++ traces_text_at t.now f kept.now) }
 {
-    if t.scope.config.workers == 1 {
+    if t.scope.config.environment.workers == 1 {
         return put_traces(alloc, t, kept, lines);
     }
     let pieces = pieces_of(kept.len());
@@ -92,7 +92,7 @@ fn put_wave<R: Threads + Sync, G: Gate>(
         IfOk result (λ _. lines.new ≡ lines.old ++ traces_text_at job.now.traces f
         (take (PIECE * job.now.pieces) (drop (PIECE * job.now.first) job.now.kept.now))) }
 {
-    let workers = job.traces.scope.config.workers;
+    let workers = job.traces.scope.config.environment.workers;
     let texts = run_pieces(rt, job.alloc, job, job.pieces, workers, Deal::Round, gate)?;
     for text in texts.as_slice() {
         lines.extend(text.as_slice())?;

@@ -3,10 +3,10 @@ use Rattle.std.proofs.Common.{◌≡◌, ℤ, List, length, subst}
 use Rattle.std.specs.Prelude.{Option, Some, None, option_map}
 use Rattle.std.specs.List.{AllByRecursion}
 use Rattle.std.proofs.lemmas.Option.{none-some, same_Some}
-use Rattle.pp_model.specs.declared.config.Config.{Config}
 use Rattle.pp_model.specs.declared.frame.Frame.{Frame}
 use Rattle.pp_model.specs.declared.profile.Sample.{Sample}
 use Rattle.pp_model.specs.declared.profile.Profile.{Profile}
+use Rattle.pp_model.specs.declared.filtering.Filtering.{Filtering}
 use Rattle.pp_model.specs.Finders.{Finders}
 use Rattle.pp_count.specs.Seeing.{filtered_stack}
 use Rattle.pp_share.specs.Alike.{same_sample, same_location}
@@ -20,12 +20,12 @@ use Rattle.pp_share.proofs.SumLemmas.{length-total_of}
 use Rattle.pp_restack.specs.Stacks.{by_place, cut_text}
 use Rattle.pp_dump.specs.Saved.{cut_sample, cut_samples, saved_contents}
 
-module _ (p : Profile) (f : Finders) (config : Config) where
+module _ (p : Profile) (f : Finders) (filtering : Filtering) where
   abbrev c : Contents
-  c = saved_contents p f config
+  c = saved_contents p f filtering
 
   abbrev items : List (SampleText × List ℤ)
-  items = cut_samples p f config
+  items = cut_samples p f filtering
 
   one_cut : (P : LocationText → Type 0) → ((group : List Frame) → P (cut_text p group)) → (s : Sample) (o : Option (List Frame)) (y : SampleText × List ℤ)
       → option_map (cut_sample p f s) o ≡ Some y → AllByRecursion P y.0.locations
@@ -41,9 +41,9 @@ module _ (p : Profile) (f : Finders) (config : Config) where
       (all_mapped (λ (s : SampleText × List ℤ). AllByRecursion P s.0.locations) (λ key. (key, sum_of same_sample (length p.sample_type) items key)) (distinct same_sample (keys_of same_sample items))
       (all_distinct (λ (key : SampleText). AllByRecursion P key.locations) same_sample (keys_of same_sample items)
       (all_mapped (λ (key : SampleText). AllByRecursion P key.locations) (λ (item : SampleText × List ℤ). item.0) items
-      (all_some (λ (item : SampleText × List ℤ). AllByRecursion P item.0.locations) (λ s. option_map (cut_sample p f s) (filtered_stack p f config s)) p.sample
-      (all_any (λ (s : Sample). (y : SampleText × List ℤ) → option_map (cut_sample p f s) (filtered_stack p f config s) ≡ Some y → AllByRecursion P y.0.locations)
-      (λ s y found. one_cut P each s (filtered_stack p f config s) y found) p.sample)))))
+      (all_some (λ (item : SampleText × List ℤ). AllByRecursion P item.0.locations) (λ s. option_map (cut_sample p f s) (filtered_stack p f filtering s)) p.sample
+      (all_any (λ (s : Sample). (y : SampleText × List ℤ) → option_map (cut_sample p f s) (filtered_stack p f filtering s) ≡ Some y → AllByRecursion P y.0.locations)
+      (λ s y found. one_cut P each s (filtered_stack p f filtering s) y found) p.sample)))))
 
   -- and of each location.
   pub locations_each : (P : LocationText → Type 0) → ((group : List Frame) → P (cut_text p group)) → AllByRecursion P (locations c)

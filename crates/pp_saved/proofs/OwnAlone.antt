@@ -29,7 +29,7 @@ module _ (q : Profile) (f : Finders) (config : Config) (column : Option ℕ) whe
   own_cut [] = refl
   own_cut (x ∷ stack) = refl
 
-  same_stacks : filtered_stack q (own_alone f) d ≡ filtered_stack q no_finders d
+  same_stacks : filtered_stack q (own_alone f) d.filtering ≡ filtered_stack q no_finders d.filtering
   same_stacks = λ i s. own_cut (stack_of q s) i
 
   abbrev samples_by : (Sample → Option (List Frame)) → List (Seen Written)
@@ -43,11 +43,11 @@ module _ (q : Profile) (f : Finders) (config : Config) (column : Option ℕ) whe
   figures_by left = record {
     column = column;
     value_type = column_type q column;
-    total = total_over q d column (if d.relative_percentages then filter (λ s. is_some (left s)) q.sample else q.sample);
+    total = total_over q d.presentation column (if d.presentation.relative_percentages then filter (λ s. is_some (left s)) q.sample else q.sample);
     file = first_file q;
     duration = q.duration_nanos;
     keys = each_once key_cmp (all_keys (samples_by left));
-    finds = λ test k. list_any (λ s. list_any (is_found_frame d test k) s.keys) (frames_by left);
+    finds = λ test k. list_any (λ s. list_any (is_found_frame d.grouping test k) s.keys) (frames_by left);
     flat_of = flat key_cmp (samples_by left);
     cum_of = cum key_cmp (samples_by left);
     occurs_pair = λ kept. edge_occurs key_cmp kept (samples_by left);

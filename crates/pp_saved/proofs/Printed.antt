@@ -2,8 +2,8 @@
 use Rattle.std.proofs.Common.{◌≡◌, ℕ, ℤ, pos, Bool, true, not, List, ◌++◌, length, map, Option, refl, ap, ◌∙◌}
 use Rattle.std.specs.List.{filter}
 use Rattle.pp_model.specs.declared.config.Config.{Config}
-use Rattle.pp_model.specs.declared.config.Sort.{Sort}
-use Rattle.pp_model.specs.declared.config.Sort.TheVariants as sorts
+use Rattle.pp_model.specs.declared.presentation.Sort.{Sort}
+use Rattle.pp_model.specs.declared.presentation.Sort.TheVariants as sorts
 use Rattle.pp_model.specs.declared.profile.Profile.{Profile}
 use Rattle.pp_model.specs.Finders.{Finders}
 use Rattle.pp_model.specs.FrameTexts.{Written}
@@ -39,20 +39,20 @@ module _ (p : Profile) (f : Finders) (config : Config) (column : Option ℕ) whe
   order_is sorts.Cum = refl
 
   -- the keys that may be shown
-  candidates_are : candidate_keys p f config column ≡ layouts.candidates g config
+  candidates_are : candidate_keys p f config column ≡ layouts.candidates g config.presentation
   candidates_are =
-      relisted (report_total samples config.sort) (report_same samples config.sort) (layouts.is_heavy_key g config) (all_keys samples)
-      ∙ ap (λ order. each_once order (filter (layouts.is_heavy_key g config) g.keys)) (order_is config.sort)
+      relisted (report_total samples config.presentation.sort) (report_same samples config.presentation.sort) (layouts.is_heavy_key g config.presentation) (all_keys samples)
+      ∙ ap (λ order. each_once order (filter (layouts.is_heavy_key g config.presentation) g.keys)) (order_is config.presentation.sort)
 
   -- how many are not
-  light_are : light_nodes p f config column ≡ layouts.light_keys g config
-  light_are = counted_once (λ k. not (layouts.is_heavy_key g config k)) (all_keys samples)
+  light_are : light_nodes p f config column ≡ layouts.light_keys g config.presentation
+  light_are = counted_once (λ k. not (layouts.is_heavy_key g config.presentation k)) (all_keys samples)
 
   -- all keys, in report order
-  all_are : all_report_keys p f config column ≡ each_once (layouts.order_by g config.sort) g.keys
+  all_are : all_report_keys p f config column ≡ each_once (layouts.order_by g config.presentation.sort) g.keys
   all_are =
-      relisted_all (report_total samples config.sort) (report_same samples config.sort) (all_keys samples)
-      ∙ ap (λ order. each_once order g.keys) (order_is config.sort)
+      relisted_all (report_total samples config.presentation.sort) (report_same samples config.presentation.sort) (all_keys samples)
+      ∙ ap (λ order. each_once order g.keys) (order_is config.presentation.sort)
 
   -- neighbours of a key, whichever pairs are shown
   abbrev Lists : Type 0
@@ -75,7 +75,7 @@ module _ (p : Profile) (f : Finders) (config : Config) (column : Option ℕ) whe
   }
 
   -- The text of top.
-  pub top_is : (limit : ℕ) (h : Facts) → top.top_text p f config column limit h ≡ layouts.top_layout g config limit h
+  pub top_is : (limit : ℕ) (h : Facts) → top.top_text p f config column limit h ≡ layouts.top_layout g config.presentation limit h
   top_is limit h = λ i.
       let all : List Written = candidates_are i in
       let shown : List Written = shown_keys limit all in
@@ -84,17 +84,17 @@ module _ (p : Profile) (f : Finders) (config : Config) (column : Option ℕ) whe
       ++ heading ++ top.top_rows h.unit h.total (pos 0) (map (layouts.row g) shown)
 
   -- The text of tree.
-  pub tree_is : (limit : ℕ) (h : Facts) → tree.tree_text p f config column limit h ≡ layouts.tree_layout g config limit h
+  pub tree_is : (limit : ℕ) (h : Facts) → tree.tree_text p f config column limit h ≡ layouts.tree_layout g config.presentation limit h
   tree_is limit h = λ i.
       let all : List Written = candidates_are i in
       let shown : List Written = shown_keys limit all in
       facts_text h
-      ++ tree.summary_text h (int_sum (map g.flat_of shown)) (light_are i) (layouts.light_pairs g config shown) (length shown) (length all)
+      ++ tree.summary_text h (int_sum (map g.flat_of shown)) (light_are i) (layouts.light_pairs g config.presentation shown) (length shown) (length all)
       ++ table_heading
-      ++ tree_nodes_text h.unit h.total (pos 0) (map (node_by (lists_are i) (λ k. has key_cmp k shown) config.edgefraction.billionths) shown)
+      ++ tree_nodes_text h.unit h.total (pos 0) (map (node_by (lists_are i) (λ k. has key_cmp k shown) config.presentation.edgefraction.billionths) shown)
 
   -- The text of peek.
-  pub peek_is : (h : Facts) → peek_text p f config column h ≡ layouts.peek_layout g config f.own h
+  pub peek_is : (h : Facts) → peek_text p f config column h ≡ layouts.peek_layout g config.presentation f.own h
   peek_is h = λ i.
       let all : List Written = all_are i in
       facts_text h
@@ -104,7 +104,7 @@ module _ (p : Profile) (f : Finders) (config : Config) (column : Option ℕ) whe
       (map (node_by (lists_are i) (λ _. true) 0) (filter (g.finds (layouts.own_finds f.own)) all))
 
   -- The text of table.
-  pub table_is : (limit : ℕ) (unit : List ℕ) → exact_table p f config column limit unit ≡ layouts.table_layout g config limit unit
+  pub table_is : (limit : ℕ) (unit : List ℕ) → exact_table p f config column limit unit ≡ layouts.table_layout g config.presentation limit unit
   table_is limit unit = λ i. exact_heading unit ++ table_rows (map (layouts.row g) (shown_keys limit (all_are i)))
 
 -- All four.

@@ -73,7 +73,7 @@ record Counted (p : Profile) (f : Finders) (config : Config) (q : Profile) (d : 
   pub frames : (test : List Written → Bool) → list_any (λ s. test s.keys) (report_frames q no_finders d column) ≡ list_any (λ s. test s.keys) (report_frames p f config column)
   pub absolutes : absolute (seen_samples q no_finders d column q.sample) ≡ absolute (seen_samples p f config column p.sample)
 
-module _ (p : Profile) (f : Finders) (config : Config) (q : Profile) (can : CanSave p config) (is : IsSaved p f config q) where
+module _ (p : Profile) (f : Finders) (config : Config) (q : Profile) (can : CanSave p config.presentation) (is : IsSaved p f config q) where
   abbrev d : Config
   d = unfiltered config
 
@@ -88,18 +88,18 @@ module _ (p : Profile) (f : Finders) (config : Config) (q : Profile) (can : CanS
     tagignore = refl;
   }
 
-  whole : left_stacks q no_finders d ≡ whole_stacks q
-  whole = let compact : IsCompact q = subst IsCompact is.again (compact_written (contents q [])) in whole_left q compact.locations d refl refl is.valid
+  whole : left_stacks q no_finders d.filtering ≡ whole_stacks q
+  whole = let compact : IsCompact q = subst IsCompact is.again (compact_written (contents q [])) in whole_left q compact.locations d.filtering refl refl is.valid
 
   counted : (column : Option ℕ) → IsColumnOf p column → Counted p f config q d column
   counted None within =
-      let ours : report_samples p f config None ≡ [] = none_seen p config (filtered_stack p f config) p.sample in
-      let theirs : report_samples q no_finders d None ≡ [] = none_seen q d (filtered_stack q no_finders d) q.sample in
+      let ours : report_samples p f config None ≡ [] = none_seen p config (filtered_stack p f config.filtering) p.sample in
+      let theirs : report_samples q no_finders d None ≡ [] = none_seen q d (filtered_stack q no_finders d.filtering) q.sample in
       record {
         sums = λ test. ap (sum_where test) (theirs ∙ sym ours);
         some = λ test. ap (list_any (λ (s : Seen Written). test s.keys)) (theirs ∙ sym ours);
         frames = λ test. ap (list_any (λ (s : Seen Written). test s.keys))
-            (none_framed q d (filtered_stack q no_finders d) q.sample ∙ sym (none_framed p config (filtered_stack p f config) p.sample));
+            (none_framed q d (filtered_stack q no_finders d.filtering) q.sample ∙ sym (none_framed p config (filtered_stack p f config.filtering) p.sample));
         absolutes = nothing_adds_up q no_finders d q.sample ∙ sym (nothing_adds_up p f config p.sample);
       }
   counted (Some column) within =
@@ -124,7 +124,7 @@ module _ (p : Profile) (f : Finders) (config : Config) (q : Profile) (can : CanS
 
     total_is : total_of q no_finders d column ≡ total_of p f config column
     total_is =
-        relative_total q no_finders d column can.relative (none_of_base p f config q is.stacks can.plain)
+        relative_total q no_finders d column can.relative (none_of_base p f config.filtering q is.stacks can.plain)
         ∙ same.absolutes ∙ sym (relative_total p f config column can.relative can.plain)
 
     keys_are : each_once key_cmp (all_keys (report_samples q no_finders d column)) ≡ each_once key_cmp (all_keys (report_samples p f config column))
@@ -137,10 +137,10 @@ module _ (p : Profile) (f : Finders) (config : Config) (q : Profile) (can : CanS
       column = column;
       value_type = same_type p q column is.header.header i;
       total = total_is i;
-      file = (ap first_file is.is ∙ same_file p f config) i;
-      duration = (ap (λ (r : Profile). r.duration_nanos) is.is ∙ same_duration p f config can.settled) i;
+      file = (ap first_file is.is ∙ same_file p f config.filtering) i;
+      duration = (ap (λ (r : Profile). r.duration_nanos) is.is ∙ same_duration p f config.filtering can.settled) i;
       keys = keys_are i;
-      finds = λ test k. same.frames (list_any (is_found_frame config test k)) i;
+      finds = λ test k. same.frames (list_any (is_found_frame config.grouping test k)) i;
       flat_of = λ k. same.sums (leads key_cmp k) i;
       cum_of = λ k. same.sums (has key_cmp k) i;
       occurs_pair = λ kept a b. same.some (has_edge key_cmp kept a b) i;
@@ -148,28 +148,28 @@ module _ (p : Profile) (f : Finders) (config : Config) (q : Profile) (can : CanS
     }
 
 -- the saved profile keeps what saving keeps
-saving : (p : Profile) (f : Finders) (config : Config) → CanSave p config → IsSaved p f config (saved p f config)
+saving : (p : Profile) (f : Finders) (config : Config) → CanSave p config.presentation → IsSaved p f config (saved p f config.filtering)
 saving p f config can = is_saved p f config can.valid can.starts can.settled
 
 -- The figures are the same,
 pub saved_figures : SavedFigures
 saved_figures p f config column can within =
-    own_figures (saved p f config) f config column ∙ alone p f config (saved p f config) can (saving p f config can) column within
+    own_figures (saved p f config.filtering) f config column ∙ alone p f config (saved p f config.filtering) can (saving p f config can) column within
 
 -- and so are the texts.
 pub saved_texts : SavedTexts
 saved_texts p f config column can within =
-    let q : Profile = saved p f config in
+    let q : Profile = saved p f config.filtering in
     let g : Finders = own_alone f in
     let d : Config = unfiltered config in
     let figs : figures q g d column ≡ figures p f config column = saved_figures p f config column can within in
     record {
-      top = λ limit h. top_is q g d column limit h ∙ ap (λ (a : Figures). top_layout a config limit h) figs ∙ sym (top_is p f config column limit h);
-      tree = λ limit h. tree_is q g d column limit h ∙ ap (λ (a : Figures). tree_layout a config limit h) figs ∙ sym (tree_is p f config column limit h);
+      top = λ limit h. top_is q g d column limit h ∙ ap (λ (a : Figures). top_layout a config.presentation limit h) figs ∙ sym (top_is p f config column limit h);
+      tree = λ limit h. tree_is q g d column limit h ∙ ap (λ (a : Figures). tree_layout a config.presentation limit h) figs ∙ sym (tree_is p f config column limit h);
       found = ap (list_any (λ (s : Seen Written). list_any (finds_own f) s.keys)) (own_frames q f config column)
           ∙ (counted p f config q can (saving p f config can) column within).frames (list_any (finds_own f));
-      peek = λ h. peek_is q g d column h ∙ ap (λ (a : Figures). peek_layout a config f.own h) figs ∙ sym (peek_is p f config column h);
-      table = λ limit unit. table_is q g d column limit unit ∙ ap (λ (a : Figures). table_layout a config limit unit) figs ∙ sym (table_is p f config column limit unit);
+      peek = λ h. peek_is q g d column h ∙ ap (λ (a : Figures). peek_layout a config.presentation f.own h) figs ∙ sym (peek_is p f config column h);
+      table = λ limit unit. table_is q g d column limit unit ∙ ap (λ (a : Figures). table_layout a config.presentation limit unit) figs ∙ sym (table_is p f config column limit unit);
       folded = ap (λ (ss : List (Seen Written)). path_lines (all_paths key_cmp (map rooted ss))) (own_samples q f config column)
           ∙ ap path_lines (paths_are p f config q can (saving p f config can) column within);
     }

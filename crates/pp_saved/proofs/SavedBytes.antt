@@ -17,6 +17,7 @@ use Rattle.pp_model.specs.declared.profile.Profile.{Profile}
 use Rattle.pp_model.specs.declared.report.BaseKind.{BaseKind}
 use Rattle.pp_model.specs.declared.report.Report.{Report}
 use Rattle.pp_model.specs.declared.report.Report.TheVariants as reports
+use Rattle.pp_model.specs.declared.presentation.Presentation.{Presentation}
 use Rattle.pp_model.specs.Conditions.{IsColumnOf}
 use Rattle.pp_model.specs.Lookup.{text_of}
 use Rattle.pp_model.specs.ReportFacts.{is_counted}
@@ -90,22 +91,22 @@ module _ (p : Profile) where
       (first_below (length p.sample_type) (type_named p (text_of p p.default_sample_type)) (named_below (text_of p p.default_sample_type)))
   column_bound (b ∷ text) column is = asked_below (length p.sample_type) (column_named p (b ∷ text)) (column_below (b ∷ text)) column is
 
-  module _ (config : Config) (s : Showing) where
+  module _ (presentation : Presentation) (s : Showing) where
     unit_bound : (column : Option ℕ) (wanted : Option (Option Shown)) → IsColumnOf p column → in_unit column wanted ≡ Ok s → IsColumnOf p s.column
     unit_bound column None bound is = absurd cc
     unit_bound column (Some wanted) bound is =
         let same : ◌≡◌ {A = Showing} (record { column = column; wanted = wanted }) s = cc in subst (λ (t : Showing). IsColumnOf p t.column) same bound
 
-    in_bound : (o : Option (Option ℕ)) → ((column : Option ℕ) → o ≡ Some column → IsColumnOf p column) → in_column p config o ≡ Ok s → IsColumnOf p s.column
+    in_bound : (o : Option (Option ℕ)) → ((column : Option ℕ) → o ≡ Some column → IsColumnOf p column) → in_column p presentation o ≡ Ok s → IsColumnOf p s.column
     in_bound None known is = absurd cc
-    in_bound (Some column) known is = unit_bound column (wanted_unit config.unit (unit_text p column)) (known column refl) is
+    in_bound (Some column) known is = unit_bound column (wanted_unit presentation.unit (unit_text p column)) (known column refl) is
 
-    values_bound : in_column p config (column_of p config.sample_index) ≡ Ok s → IsColumnOf p s.column
-    values_bound = in_bound (column_of p config.sample_index) (column_bound config.sample_index)
+    values_bound : in_column p presentation (column_of p presentation.sample_index) ≡ Ok s → IsColumnOf p s.column
+    values_bound = in_bound (column_of p presentation.sample_index) (column_bound presentation.sample_index)
 
     -- what a report shows that stays
-    showing_bound : (report : Report) → stays_saved report ≡ true → showing_for report p config ≡ Ok s → IsColumnOf p s.column
-    showing_bound report stays = on_staying (λ r. showing_for r p config ≡ Ok s → IsColumnOf p s.column) values_bound values_bound (λ pattern. values_bound) values_bound values_bound report stays
+    showing_bound : (report : Report) → stays_saved report ≡ true → showing_for report p presentation ≡ Ok s → IsColumnOf p s.column
+    showing_bound report stays = on_staying (λ r. showing_for r p presentation ≡ Ok s → IsColumnOf p s.column) values_bound values_bound (λ pattern. values_bound) values_bound values_bound report stays
 
 -- ---- what a report comes to, where no pattern is refused
 
@@ -122,24 +123,24 @@ staying_counted report stays = on_staying (λ r. is_counted r ≡ true) refl ref
 
 module _ (finds : Finds) (l : Loaded) (report : Report) (config : Config) (counted : is_counted report ≡ true) (base : Option BaseKind) where
   abbrev over : Loaded
-  over = basis_of report l config
+  over = basis_of report l config.presentation
 
   -- refused for its column or its unit
-  refused_taken : (e : ReportRefusal) → showing_for report over.profile config ≡ Err e → GivesTaken (report_script finds l base report config) (reported_with [] (Err e))
+  refused_taken : (e : ReportRefusal) → showing_for report over.profile config.presentation ≡ Err e → GivesTaken (report_script finds l base report config) (reported_with [] (Err e))
   unfolding report_script report_settled prepare_on
   refused_taken e known =
       taken_then (prepare finds l report config) (report_settled finds l base report config) (Err e) (reported_with [] (Err e))
-      (subst (λ k. GivesTaken (go_on (prepare_showing finds over report config) k) (Err e)) (sym known) refl) refl
+      (subst (λ k. GivesTaken (go_on (prepare_showing finds over report config.filtering) k) (Err e)) (sym known) refl) refl
 
   -- or made of what it shows
-  made_taken : (s : Showing) (x : Result (List ℕ) ReportRefusal) → showing_for report over.profile config ≡ Ok s → GivesTaken (finish finds l base report config s) x
-      → GivesTaken (report_script finds l base report config) (reported_with (settled_of finds over report config s).notes x)
+  made_taken : (s : Showing) (x : Result (List ℕ) ReportRefusal) → showing_for report over.profile config.presentation ≡ Ok s → GivesTaken (finish finds l base report config s) x
+      → GivesTaken (report_script finds l base report config) (reported_with (settled_of finds over report config.filtering s).notes x)
   unfolding report_script report_settled prepare_on
   made_taken s x known made =
-      let settled : Settled = settled_of finds over report config s in
+      let settled : Settled = settled_of finds over report config.filtering s in
       taken_then (prepare finds l report config) (report_settled finds l base report config) (Ok settled) (reported_with settled.notes x)
-      (subst (λ k. GivesTaken (go_on (prepare_showing finds over report config) k) (Ok settled)) (sym known)
-      (subst (λ script. GivesTaken script (Ok settled)) (sym (showing_counts finds over report config s counted)) (gives_counts finds over report config s)))
+      (subst (λ k. GivesTaken (go_on (prepare_showing finds over report config.filtering) k) (Ok settled)) (sym known)
+      (subst (λ script. GivesTaken script (Ok settled)) (sym (showing_counts finds over report config s counted)) (gives_counts finds over report config.filtering s)))
       (taken_then (finish finds l base report config s) (λ outcome. Give (reported_with settled.notes outcome)) x (reported_with settled.notes x) made refl)
 
   module _ (files : FileMap) (answers : List Answer) (taken : AllTaken answers) where
@@ -148,16 +149,16 @@ module _ (finds : Finds) (l : Loaded) (report : Report) (config : Config) (count
     comes_to notes x gives = ap (λ (r : Reported). r.outcome) (taken_course (report_script finds l base report config) (reported_with notes x) files [] [] answers taken gives)
 
 -- a proto report comes to the bytes of what is saved, where no frames are made from labels
-pub proto_taken : (finds : Finds) (l : Loaded) (base : Option BaseKind) (config : Config) → NamesNoKey config
-    → (notes : List ℕ) × GivesTaken (report_script finds l base reports.Proto config) (reported_with notes (Ok (encode (saved_by finds l config))))
+pub proto_taken : (finds : Finds) (l : Loaded) (base : Option BaseKind) (config : Config) → NamesNoKey config.presentation
+    → (notes : List ℕ) × GivesTaken (report_script finds l base reports.Proto config) (reported_with notes (Ok (encode (saved_by finds l config.filtering))))
 unfolding finish_on text_by
 proto_taken finds l base config keyless =
     let shown : Showing = record { column = None; wanted = None } in
-    let over : Loaded = basis_of reports.Proto l config in
-    let notes : List ℕ = (settled_of finds over reports.Proto config shown).notes in (
+    let over : Loaded = basis_of reports.Proto l config.presentation in
+    let notes : List ℕ = (settled_of finds over reports.Proto config.filtering shown).notes in (
       notes,
-      subst (λ (q : Loaded). GivesTaken (report_script finds l base reports.Proto config) (reported_with notes (Ok (encode (saved_by finds q config))))) (plain_basis reports.Proto l config keyless)
-          (made_taken finds l reports.Proto config refl base shown (Ok (encode (saved_by finds over config))) refl refl),
+      subst (λ (q : Loaded). GivesTaken (report_script finds l base reports.Proto config) (reported_with notes (Ok (encode (saved_by finds q config.filtering))))) (plain_basis reports.Proto l config.presentation keyless)
+          (made_taken finds l reports.Proto config refl base shown (Ok (encode (saved_by finds over config.filtering))) refl refl),
     )
 
 -- ---- a saved profile and the one that it was saved of
@@ -170,38 +171,38 @@ pub record ComeToOne (first second : Script Reported) : Type 0 where
   pub noted : GivesTaken second (reported_with notes outcome)
 
 -- without filters there are no notes
-unfiltered_silent : (c : Config) (matched : List Bool) → notes_by (unfiltered c) matched ≡ []
+unfiltered_silent : (c : Config) (matched : List Bool) → notes_by (unfiltered c).filtering matched ≡ []
 unfolding notes_by note_unless
 unfiltered_silent c matched = refl
 
-module _ (finds : Finds) (l r : Loaded) (c : Config) (can : CanSave l.profile c) (is : IsSavedOf finds l c r) where
+module _ (finds : Finds) (l r : Loaded) (c : Config) (can : CanSave l.profile c.presentation) (is : IsSavedOf finds l c.filtering r) where
   abbrev d : Config
   d = unfiltered c
 
   figures_alike : (report : Report) → report_figures finds r report d ≡ report_figures finds l report c
   figures_alike report =
-      ap (option_map (figures r.profile (report_finders finds r report d) d)) (same_column l.profile r.profile (types_are finds l r report c can is) c.sample_index)
-      ∙ by (column_of l.profile c.sample_index) (column_bound l.profile c.sample_index)
+      ap (option_map (figures r.profile (report_finders finds r report d.filtering) d)) (same_column l.profile r.profile (types_are finds l r report c can is) c.presentation.sample_index)
+      ∙ by (column_of l.profile c.presentation.sample_index) (column_bound l.profile c.presentation.sample_index)
     where
       by : (o : Option (Option ℕ)) → ((column : Option ℕ) → o ≡ Some column → IsColumnOf l.profile column)
-          → option_map (figures r.profile (report_finders finds r report d) d) o ≡ option_map (figures l.profile (report_finders finds l report c) c) o
+          → option_map (figures r.profile (report_finders finds r report d.filtering) d) o ≡ option_map (figures l.profile (report_finders finds l report c.filtering) c) o
       by None known = refl
       by (Some column) known = ap Some (figures_are finds l r report c can is column (known column refl) None)
 
-  module _ (plain : IsPlain c) (report : Report) (stays : stays_saved report ≡ true) (base other : Option BaseKind) where
+  module _ (plain : IsPlain c.presentation) (report : Report) (stays : stays_saved report ≡ true) (base other : Option BaseKind) where
     alike : ReportAlike finds l r report c d
     alike = saved_reports finds l r report c stays can plain is
 
     -- what is shown is known of the profile that a report is made of
-    own : (known : Result Showing ReportRefusal) → showing_for report l.profile c ≡ known → showing_for report (basis_of report l c).profile c ≡ known
-    own known shows = ap (λ (q : Loaded). showing_for report q.profile c) (plain_basis report l c plain.keyless) ∙ shows
+    own : (known : Result Showing ReportRefusal) → showing_for report l.profile c.presentation ≡ known → showing_for report (basis_of report l c.presentation).profile c.presentation ≡ known
+    own known shows = ap (λ (q : Loaded). showing_for report q.profile c.presentation) (plain_basis report l c.presentation plain.keyless) ∙ shows
 
-    saved_own : (known : Result Showing ReportRefusal) → showing_for report l.profile c ≡ known → showing_for report (basis_of report r d).profile d ≡ known
+    saved_own : (known : Result Showing ReportRefusal) → showing_for report l.profile c.presentation ≡ known → showing_for report (basis_of report r d.presentation).profile d.presentation ≡ known
     saved_own known shows =
-        ap (λ (q : Loaded). showing_for report q.profile d) (plain_basis report r d (record { roots = plain.keyless.roots; leaves = plain.keyless.leaves }))
+        ap (λ (q : Loaded). showing_for report q.profile d.presentation) (plain_basis report r d.presentation (record { roots = plain.keyless.roots; leaves = plain.keyless.leaves }))
         ∙ alike.shows ∙ shows
 
-    one_outcome : (known : Result Showing ReportRefusal) → showing_for report l.profile c ≡ known → ComeToOne (report_script finds r other report d) (report_script finds l base report c)
+    one_outcome : (known : Result Showing ReportRefusal) → showing_for report l.profile c.presentation ≡ known → ComeToOne (report_script finds r other report d) (report_script finds l base report c)
     one_outcome (Err e) shows =
         let count = staying_counted report stays in
         record {
@@ -214,21 +215,21 @@ module _ (finds : Finds) (l r : Loaded) (c : Config) (can : CanSave l.profile c)
         let count = staying_counted report stays in
         let made = made_at_once finds l report c stays base s in
         let theirs : GivesTaken (finish finds r other report d s) made.0 =
-        subst (λ script. GivesTaken script made.0) (sym (alike.comes_to s (showing_bound l.profile c s report stays shows) base other)) made.1 in
+        subst (λ script. GivesTaken script made.0) (sym (alike.comes_to s (showing_bound l.profile c.presentation s report stays shows) base other)) made.1 in
         record {
-          notes = (settled_of finds (basis_of report l c) report c s).notes;
+          notes = (settled_of finds (basis_of report l c.presentation) report c.filtering s).notes;
           outcome = made.0;
-          silent = subst (λ notes. GivesTaken (report_script finds r other report d) (reported_with notes made.0)) (unfiltered_silent c (matches_of (basis_of report r d).profile (report_finders finds (basis_of report r d) report d) d))
+          silent = subst (λ notes. GivesTaken (report_script finds r other report d) (reported_with notes made.0)) (unfiltered_silent c (matches_of (basis_of report r d.presentation).profile (report_finders finds (basis_of report r d.presentation) report d.filtering) d.filtering))
               (made_taken finds r report d count other s made.0 (saved_own (Ok s) shows) theirs);
           noted = made_taken finds l report c count base s made.0 (own (Ok s) shows) made.1;
         }
 
     -- Both come to one outcome.
     pub both : ComeToOne (report_script finds r other report d) (report_script finds l base report c)
-    both = one_outcome (showing_for report l.profile c) refl
+    both = one_outcome (showing_for report l.profile c.presentation) refl
 
   -- They report alike.
-  reports_alike : IsPlain c → ReportsAlike finds l r c
+  reports_alike : IsPlain c.presentation → ReportsAlike finds l r c
   reports_alike plain = record {
     figures = figures_alike;
     texts = λ report stays base other files answers others taken others_taken.
@@ -239,22 +240,11 @@ module _ (finds : Finds) (l r : Loaded) (c : Config) (can : CanSave l.profile c)
   }
 
 -- the filters alone tell what is saved
-pub saved_same : (finds : Finds) (l : Loaded) (config c : Config) → HasFiltersOf config c → saved_by finds l c ≡ saved_by finds l config
-saved_same finds l config c has = λ i. saved_by finds l (record config {
-  focus = has.focus i;
-  ignore = has.ignore i;
-  hide = has.hide i;
-  show = has.show i;
-  show_from = has.show_from i;
-  prune_from = has.prune_from i;
-  tagfocus = has.tagfocus i;
-  tagignore = has.tagignore i;
-  tagshow = has.tagshow i;
-  taghide = has.taghide i;
-})
+pub saved_same : (finds : Finds) (l : Loaded) (config c : Config) → HasFiltersOf config c → saved_by finds l c.filtering ≡ saved_by finds l config.filtering
+saved_same finds l config c has = ap (λ filtering. saved_by finds l (record config { filtering = filtering }).filtering) has
 
 -- what holds of the loaded profile and of the configuration
-pub can_save : (p : Profile) (c : Config) → NoRuleFails p → AllByRecursion (λ m. m.start < 2 ^ 64) p.mapping → IsSource p → CountsFiltered c → CanSave p c
+pub can_save : (p : Profile) (c : Config) → NoRuleFails p → AllByRecursion (λ m. m.start < 2 ^ 64) p.mapping → IsSource p → CountsFiltered c.presentation → CanSave p c.presentation
 can_save p c valid starts source counts = record {
   valid = valid;
   starts = starts;
@@ -266,13 +256,13 @@ can_save p c valid starts source counts = record {
 }
 
 -- All of it, as it was written.
-proto_text : (finds : Finds) (l : Loaded) (config : Config) (text : List ℕ) → IsCountable l.profile → IsProtoBy finds l config text → IsSavedText finds l config text
+proto_text : (finds : Finds) (l : Loaded) (config : Config) (text : List ℕ) → IsCountable l.profile → IsProtoBy finds l config.filtering text → IsSavedText finds l config text
 proto_text finds l config text countable is = record {
   bytes = is.bytes;
   again = is.again;
   lasts = is.lasts;
   sums = λ column within.
-      omega (arith, saved_sizes l.profile (report_finders finds l reports.Proto config) config column is.valid within, countable.sums column within);
+      omega (arith, saved_sizes l.profile (report_finders finds l reports.Proto config.filtering) config.filtering column is.valid within, countable.sums column within);
   reports = λ source c has counts plain r saved.
       reports_alike finds l r c (can_save l.profile c is.valid is.starts source counts)
       (record { profile = saved.profile ∙ sym (saved_same finds l config c has); drop = saved.drop; keep = saved.keep }) plain;
@@ -281,4 +271,4 @@ proto_text finds l config text countable is = record {
 -- The text of a proto report, where no frames are made from labels.
 pub saved_bytes : SavedBytes
 saved_bytes finds l config text countable keyless is =
-    proto_text finds l config text countable (subst (λ (q : Loaded). IsProtoBy finds q config text) (plain_basis reports.Proto l config keyless) is)
+    proto_text finds l config text countable (subst (λ (q : Loaded). IsProtoBy finds q config.filtering text) (plain_basis reports.Proto l config.presentation keyless) is)

@@ -3,10 +3,10 @@ use Rattle.std.proofs.Common.{◌≡◌, ℕ, Bool, true, false, List, [], ◌�
 use Rattle.std.specs.Prelude.{Option, Some, None, option_map, slice_get, find, ◌==◌, if◌then◌else◌}
 use Rattle.std.specs.List.{AllByRecursion, filter_map, cons_option, list_any}
 use Rattle.std.specs.Option.{option_and_then, option_map_or, option_to_list}
-use Rattle.pp_model.specs.declared.config.Config.{Config}
 use Rattle.pp_model.specs.declared.frame.Frame.{Frame}
 use Rattle.pp_model.specs.declared.profile.Mapping.{Mapping}
 use Rattle.pp_model.specs.declared.profile.Profile.{Profile}
+use Rattle.pp_model.specs.declared.filtering.Filtering.{Filtering}
 use Rattle.pp_model.specs.Finders.{Finders}
 use Rattle.pp_model.specs.Lookup.{text_of}
 use Rattle.pp_share.specs.Alike.{equal_mapping, first_alike}
@@ -27,8 +27,8 @@ pub same_type : (p q : Profile) (column : Option ℕ) → header_of q [] ≡ pat
 same_type p q column header = ap (λ (h : HeaderText). option_and_then (slice_get h.types) column) header
 
 -- So is the duration of a profile that stays as it is when it is merged alone.
-pub same_duration : (p : Profile) (f : Finders) (config : Config) → merged p [] ≡ p → (saved p f config).duration_nanos ≡ p.duration_nanos
-same_duration p f config settled = ap (λ (r : Profile). r.duration_nanos) settled
+pub same_duration : (p : Profile) (f : Finders) (filtering : Filtering) → merged p [] ≡ p → (saved p f filtering).duration_nanos ≡ p.duration_nanos
+same_duration p f filtering settled = ap (λ (r : Profile). r.duration_nanos) settled
 
 -- what was seen first stays first
 first_stays : (x : MappingText) (seen xs : List MappingText) → slice_get (seen_after equal_mapping (x ∷ seen) xs) 0 ≡ Some x
@@ -57,9 +57,9 @@ none_some : {A B : Type 0} (g : A → Option B) (xs : List A) → AllByRecursion
 none_some g [] all = refl
 none_some g (x ∷ xs) all = (λ i. cons_option (all.0 i) (none_some g xs all.1 i))
 
-module _ (p : Profile) (f : Finders) (config : Config) where
+module _ (p : Profile) (f : Finders) (filtering : Filtering) where
   abbrev c : Contents
-  c = saved_contents p f config
+  c = saved_contents p f filtering
 
   abbrev Unmapped : LocationText → Type 0
   Unmapped l = l.mapping ≡ None
@@ -70,7 +70,7 @@ module _ (p : Profile) (f : Finders) (config : Config) where
       ap (λ (ms : List Mapping). option_map (first_alike (all_mappings (p ∷ []))) (option_map (mapping_text p) (find (λ m. m.id == (cut_location p group).mapping_id) ms))) none
 
   -- The first mapping's file is that of the profile.
-  pub same_file : first_file (saved p f config) ≡ first_file p
+  pub same_file : first_file (saved p f filtering) ≡ first_file p
   same_file = written_file c ∙ by p.mapping refl
     where
       rest : List MappingText
@@ -80,7 +80,7 @@ module _ (p : Profile) (f : Finders) (config : Config) where
       by [] is =
           (λ i. file_in (distinct equal_mapping (option_to_list (slice_get (map (mapping_text p) (is i) ++ []) 0) ++ rest)))
           ∙ ap (λ (ms : List MappingText). file_in (distinct equal_mapping ms))
-          (none_some (λ (l : LocationText). l.mapping) (locations c) (locations_each p f config Unmapped (cut_unmapped is)))
+          (none_some (λ (l : LocationText). l.mapping) (locations c) (locations_each p f filtering Unmapped (cut_unmapped is)))
           ∙ ap (λ (ms : List Mapping). option_map_or (λ (m : Mapping). text_of p m.file) (slice_get ms 0) []) (sym is)
       by (m ∷ ms) is =
           (λ i. file_in (distinct equal_mapping (option_to_list (slice_get (map (mapping_text p) (is i) ++ []) 0) ++ rest)))

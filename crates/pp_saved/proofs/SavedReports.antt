@@ -10,6 +10,7 @@ use Rattle.pp_model.specs.declared.profile.Profile.{Profile}
 use Rattle.pp_model.specs.declared.report.BaseKind.{BaseKind}
 use Rattle.pp_model.specs.declared.report.Report.{Report}
 use Rattle.pp_model.specs.declared.report.Report.TheVariants as reports
+use Rattle.pp_model.specs.declared.presentation.Presentation.{Presentation}
 use Rattle.pp_model.specs.Conditions.{IsColumnOf}
 use Rattle.pp_model.specs.Finders.{Finders}
 use Rattle.pp_units.specs.Head.{Facts}
@@ -67,32 +68,32 @@ head_is p f config column wanted =
     }
 
 -- without keys no frames are made from labels
-pub plain_basis : (report : Report) (l : Loaded) (config : Config) → NamesNoKey config → basis_of report l config ≡ l
+pub plain_basis : (report : Report) (l : Loaded) (presentation : Presentation) → NamesNoKey presentation → basis_of report l presentation ≡ l
 unfolding basis_of
-plain_basis report l config keyless = (λ i. if is_counted report then framed_by l (keyless.roots i) (keyless.leaves i) else l) ∙ by (is_counted report)
+plain_basis report l presentation keyless = (λ i. if is_counted report then framed_by l (keyless.roots i) (keyless.leaves i) else l) ∙ by (is_counted report)
   where
     by : (b : Bool) → (if b then l else l) ≡ l
     by true = refl
     by false = refl
 
-module _ (finds : Finds) (l r : Loaded) (report : Report) (config : Config) (can : CanSave l.profile config) (is : IsSavedOf finds l config r) where
+module _ (finds : Finds) (l r : Loaded) (report : Report) (config : Config) (can : CanSave l.profile config.presentation) (is : IsSavedOf finds l config.filtering r) where
   abbrev f : Finders
-  f = report_finders finds l report config
+  f = report_finders finds l report config.filtering
 
   abbrev g : Finders
-  g = report_finders finds r report (unfiltered config)
+  g = report_finders finds r report (unfiltered config).filtering
 
   -- what is saved doesn't depend on the own pattern
-  profile_is : r.profile ≡ saved l.profile f config
+  profile_is : r.profile ≡ saved l.profile f config.filtering
   profile_is = is.profile
 
   finders_are : g ≡ own_alone f
-  finders_are = λ i. finders_of finds (unfiltered config) (own_pattern report) (option_map (finder_by r.profile) (is.drop i)) (option_map (finder_by r.profile) (is.keep i))
+  finders_are = λ i. finders_of finds (unfiltered config).filtering (own_pattern report) (option_map (finder_by r.profile) (is.drop i)) (option_map (finder_by r.profile) (is.keep i))
 
   pub types_are : HasTypesOf l.profile r.profile
   types_are =
       subst (HasTypesOf l.profile) (sym profile_is)
-      (types_by_header l.profile (saved l.profile f config) (is_saved l.profile f config can.valid can.starts can.settled).header.header)
+      (types_by_header l.profile (saved l.profile f config.filtering) (is_saved l.profile f config can.valid can.starts can.settled).header.header)
 
   module _ (column : Option ℕ) (within : IsColumnOf l.profile column) (wanted : Option Shown) where
     pub figures_are : figures r.profile g (unfiltered config) column ≡ figures l.profile f config column
@@ -152,15 +153,15 @@ on_staying P top tree peek folded table reports.Compare stays = absurd (false≢
 on_staying P top tree peek folded table reports.Changes stays = absurd (false≢true stays)
 on_staying P top tree peek folded table reports.Account stays = absurd (false≢true stays)
 
-module _ (finds : Finds) (l r : Loaded) (config : Config) (by_keys : config.path_tree ≡ false) (s : Showing) (within : IsColumnOf l.profile s.column)
-    (can : CanSave l.profile config) (is : IsSavedOf finds l config r) where
+module _ (finds : Finds) (l r : Loaded) (config : Config) (by_keys : config.presentation.path_tree ≡ false) (s : Showing) (within : IsColumnOf l.profile s.column)
+    (can : CanSave l.profile config.presentation) (is : IsSavedOf finds l config.filtering r) where
   -- the report comes to the same text
   abbrev IsSame : Report → Type 0
   IsSame report = finish_on finds r report (unfiltered config) s ≡ finish_on finds l report config s
 
   top_is : IsSame reports.Top
   unfolding finish_on text_by
-  top_is = λ i. Give (Ok (top_same finds l r reports.Top config can is s.column within s.wanted (node_limit config.nodecount 0) i))
+  top_is = λ i. Give (Ok (top_same finds l r reports.Top config can is s.column within s.wanted (node_limit config.presentation.nodecount 0) i))
 
   tree_is : IsSame reports.Tree
   unfolding finish_on text_by
@@ -168,13 +169,13 @@ module _ (finds : Finds) (l r : Loaded) (config : Config) (by_keys : config.path
       let q : Profile = r.profile in
       let d : Config = unfiltered config in
       let p : Profile = l.profile in
-      let f : Finders = report_finders finds l reports.Tree config in
-      let g : Finders = report_finders finds r reports.Tree d in
+      let f : Finders = report_finders finds l reports.Tree config.filtering in
+      let g : Finders = report_finders finds r reports.Tree d.filtering in
       let h : Facts = report_head p f config s.column s.wanted in
       let k : Facts = report_head q g d s.column s.wanted in
-      (λ i. Give (Ok (if by_keys i then calltree_text q g d s.column k else tree_text q g d s.column (node_limit config.nodecount TREE_NODES) k)))
-      ∙ (λ i. Give (Ok (tree_same finds l r reports.Tree config can is s.column within s.wanted (node_limit config.nodecount TREE_NODES) i)))
-      ∙ (λ i. Give (Ok (if sym by_keys i then calltree_text p f config s.column h else tree_text p f config s.column (node_limit config.nodecount TREE_NODES) h)))
+      (λ i. Give (Ok (if by_keys i then calltree_text q g d s.column k else tree_text q g d s.column (node_limit config.presentation.nodecount TREE_NODES) k)))
+      ∙ (λ i. Give (Ok (tree_same finds l r reports.Tree config can is s.column within s.wanted (node_limit config.presentation.nodecount TREE_NODES) i)))
+      ∙ (λ i. Give (Ok (if sym by_keys i then calltree_text p f config s.column h else tree_text p f config s.column (node_limit config.presentation.nodecount TREE_NODES) h)))
 
   peek_is : (pattern : List ℕ) → IsSame (reports.Peek pattern)
   unfolding finish_on text_by
@@ -184,7 +185,7 @@ module _ (finds : Finds) (l r : Loaded) (config : Config) (by_keys : config.path
 
   table_is : IsSame reports.Table
   unfolding finish_on text_by
-  table_is = λ i. Give (Ok (table_same finds l r reports.Table config can is s.column within s.wanted (node_limit config.nodecount 0) i))
+  table_is = λ i. Give (Ok (table_same finds l r reports.Table config can is s.column within s.wanted (node_limit config.presentation.nodecount 0) i))
 
   folded_is : IsSame reports.Folded
   unfolding finish_on text_by
@@ -194,7 +195,7 @@ module _ (finds : Finds) (l r : Loaded) (config : Config) (by_keys : config.path
   text_same report stays = on_staying IsSame top_is tree_is peek_is folded_is table_is report stays
 
 -- shows what the configuration shows, filtered or not
-unfiltered_shows : (report : Report) (p : Profile) (config : Config) → showing_for report p (unfiltered config) ≡ showing_for report p config
+unfiltered_shows : (report : Report) (p : Profile) (config : Config) → showing_for report p (unfiltered config).presentation ≡ showing_for report p config.presentation
 unfiltered_shows report p config = refl
 
 -- none of them compares with a base
@@ -206,12 +207,12 @@ lacks_none finds l report config base s stays =
 -- The reports are alike.
 pub saved_reports : SavedReports
 saved_reports finds l r report config stays can plain is = record {
-  shows = unfiltered_shows report r.profile config ∙ same_showing l.profile r.profile (types_are finds l r report config can is) report config;
+  shows = unfiltered_shows report r.profile config ∙ same_showing l.profile r.profile (types_are finds l r report config can is) report config.presentation;
   comes_to = λ showing within base other.
       lacks_none finds r report (unfiltered config) other showing stays
       ∙ ap (λ (x : Loaded). finish_on finds x report (unfiltered config) showing)
-      (plain_basis report r (unfiltered config) (record { roots = plain.keyless.roots; leaves = plain.keyless.leaves }))
+      (plain_basis report r (unfiltered config).presentation (record { roots = plain.keyless.roots; leaves = plain.keyless.leaves }))
       ∙ text_same finds l r config plain.path_tree showing within can is report stays
-      ∙ ap (λ (x : Loaded). finish_on finds x report config showing) (sym (plain_basis report l config plain.keyless))
+      ∙ ap (λ (x : Loaded). finish_on finds x report config showing) (sym (plain_basis report l config.presentation plain.keyless))
       ∙ sym (lacks_none finds l report config base showing stays);
 }

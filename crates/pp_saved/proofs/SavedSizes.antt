@@ -6,10 +6,10 @@ use Rattle.std.proofs.lemmas.Bool.{eqb-true, not-false}
 use Rattle.std.proofs.lemmas.List.Elements.{recursion_from_All}
 use Rattle.std.proofs.lemmas.Option.{none-some, same_Some}
 use Rattle.pp_base.proofs.Lists.{all_by}
-use Rattle.pp_model.specs.declared.config.Config.{Config}
 use Rattle.pp_model.specs.declared.frame.Frame.{Frame}
 use Rattle.pp_model.specs.declared.profile.Sample.{Sample}
 use Rattle.pp_model.specs.declared.profile.Profile.{Profile}
+use Rattle.pp_model.specs.declared.filtering.Filtering.{Filtering}
 use Rattle.pp_model.specs.Finders.{Finders}
 use Rattle.pp_model.specs.FirstSight.{distinct}
 use Rattle.pp_model.specs.Rules.{NoRuleFails}
@@ -31,9 +31,9 @@ use Rattle.pp_merge.proofs.TotalLemmas.{total, total-map, total-filter, parted, 
 use Rattle.pp_dump.specs.Saved.{cut_sample, cut_samples, saved, saved_contents}
 use Rattle.pp_saved.specs.Kept.{SavedSizes}
 
-module _ (p : Profile) (f : Finders) (config : Config) (column : ℕ) (within : column < length p.sample_type) (valid : NoRuleFails p) where
+module _ (p : Profile) (f : Finders) (filtering : Filtering) (column : ℕ) (within : column < length p.sample_type) (valid : NoRuleFails p) where
   abbrev items : List (SampleText × List ℤ)
-  items = cut_samples p f config
+  items = cut_samples p f filtering
 
   abbrev keys : List SampleText
   keys = distinct same_sample (keys_of same_sample items)
@@ -54,10 +54,10 @@ module _ (p : Profile) (f : Finders) (config : Config) (column : ℕ) (within : 
 
   items_wide : AllByRecursion (λ (item : SampleText × List ℤ). length item.1 ≡ length p.sample_type) items
   items_wide =
-      all_some (λ (item : SampleText × List ℤ). length item.1 ≡ length p.sample_type) (λ s. option_map (cut_sample p f s) (filtered_stack p f config s)) p.sample
+      all_some (λ (item : SampleText × List ℤ). length item.1 ≡ length p.sample_type) (λ s. option_map (cut_sample p f s) (filtered_stack p f filtering s)) p.sample
       (all_by (λ (s : Sample). length s.value ≡ length p.sample_type)
-      (λ (s : Sample). (y : SampleText × List ℤ) → option_map (cut_sample p f s) (filtered_stack p f config s) ≡ Some y → length y.1 ≡ length p.sample_type)
-      (λ s long y found. one_wide s long (filtered_stack p f config s) y found) p.sample wide)
+      (λ (s : Sample). (y : SampleText × List ℤ) → option_map (cut_sample p f s) (filtered_stack p f filtering s) ≡ Some y → length y.1 ≡ length p.sample_type)
+      (λ s long y found. one_wide s long (filtered_stack p f filtering s) y found) p.sample wide)
 
   rows_wide : (key : SampleText) → AllByRecursion (λ row. length row ≡ length p.sample_type) (rows_of same_sample items key)
   rows_wide key = all_mapped (λ row. length row ≡ length p.sample_type) (λ (item : SampleText × List ℤ). item.1) _ (all_filtered _ (λ item. same_sample key item.0) items items_wide)
@@ -74,10 +74,10 @@ module _ (p : Profile) (f : Finders) (config : Config) (column : ℕ) (within : 
       (all_seen same_sample (deciding_laws same_sample sample_decides).refl [] (keys_of same_sample items))
 
   -- what the filters leave adds up to no more than all
-  left_within : (xs : List Sample) → total adding_ℕ (λ (item : SampleText × List ℤ). size item.1) (filter_map (λ s. option_map (cut_sample p f s) (filtered_stack p f config s)) xs)
+  left_within : (xs : List Sample) → total adding_ℕ (λ (item : SampleText × List ℤ). size item.1) (filter_map (λ s. option_map (cut_sample p f s) (filtered_stack p f filtering s)) xs)
       ≤ total adding_ℕ (λ s. nat_abs (value_in s column)) xs
   left_within [] = omega arith
-  left_within (s ∷ xs) = by (filtered_stack p f config s) (filter_map (λ t. option_map (cut_sample p f t) (filtered_stack p f config t)) xs) (left_within xs)
+  left_within (s ∷ xs) = by (filtered_stack p f filtering s) (filter_map (λ t. option_map (cut_sample p f t) (filtered_stack p f filtering t)) xs) (left_within xs)
     where
       by : (o : Option (List Frame)) (rest : List (SampleText × List ℤ))
           → total adding_ℕ (λ (item : SampleText × List ℤ). size item.1) rest ≤ total adding_ℕ (λ t. nat_abs (value_in t column)) xs
@@ -87,11 +87,11 @@ module _ (p : Profile) (f : Finders) (config : Config) (column : ℕ) (within : 
       by (Some stack) rest less = omega (arith, less)
 
   -- so does what is saved
-  pub sizes_within : absolute_sum (saved p f config) column ≤ absolute_sum p column
+  pub sizes_within : absolute_sum (saved p f filtering) column ≤ absolute_sum p column
   sizes_within =
-      let ours : absolute_sum (saved p f config) column ≡ total adding_ℕ (λ key. size (sum_of same_sample (length p.sample_type) items key)) keys =
-      sum_by_is (λ s. nat_abs (value_in s column)) (saved p f config).sample
-      ∙ total-map adding_ℕ (λ s. nat_abs (value_in s column)) (written_sample (saved_contents p f config)) (saved_contents p f config).samples
+      let ours : absolute_sum (saved p f filtering) column ≡ total adding_ℕ (λ key. size (sum_of same_sample (length p.sample_type) items key)) keys =
+      sum_by_is (λ s. nat_abs (value_in s column)) (saved p f filtering).sample
+      ∙ total-map adding_ℕ (λ s. nat_abs (value_in s column)) (written_sample (saved_contents p f filtering)) (saved_contents p f filtering).samples
       ∙ total-filter adding_ℕ (λ (item : SampleText × List ℤ). size item.1) counts (summed same_sample (length p.sample_type) items)
       (all_any _ (λ item no_value. ap nat_abs (zero_at item.1 column (not-false _ no_value))) (summed same_sample (length p.sample_type) items))
       ∙ total-map adding_ℕ (λ (item : SampleText × List ℤ). size item.1) (λ key. (key, sum_of same_sample (length p.sample_type) items key)) keys in
@@ -109,4 +109,4 @@ module _ (p : Profile) (f : Finders) (config : Config) (column : ℕ) (within : 
 
 -- All columns.
 pub saved_sizes : SavedSizes
-saved_sizes p f config column valid within = sizes_within p f config column within valid
+saved_sizes p f filtering column valid within = sizes_within p f filtering column within valid

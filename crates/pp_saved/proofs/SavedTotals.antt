@@ -11,6 +11,7 @@ use Rattle.pp_model.specs.declared.config.Config.{Config}
 use Rattle.pp_model.specs.declared.frame.Frame.{Frame}
 use Rattle.pp_model.specs.declared.profile.Sample.{Sample}
 use Rattle.pp_model.specs.declared.profile.Profile.{Profile}
+use Rattle.pp_model.specs.declared.filtering.Filtering.{Filtering}
 use Rattle.pp_model.specs.Finders.{Finders}
 use Rattle.pp_model.specs.Lookup.{text_of}
 use Rattle.pp_model.specs.FrameTexts.{Written}
@@ -66,8 +67,8 @@ abbrev Plain : StackText → Type 0
 Plain s = of_base s ≡ false
 
 -- No sample of a profile that keeps the stacks is one of a base, where none of the profile's is.
-pub none_of_base : (p : Profile) (f : Finders) (config : Config) (q : Profile) → KeepsStacks p f config q → list_any (is_base p) p.sample ≡ false → list_any (is_base q) q.sample ≡ false
-none_of_base p f config q keeps plain =
+pub none_of_base : (p : Profile) (f : Finders) (filtering : Filtering) (q : Profile) → KeepsStacks p f filtering q → list_any (is_base p) p.sample ≡ false → list_any (is_base q) q.sample ≡ false
+none_of_base p f filtering q keeps plain =
     each_none (is_base q) q.sample
     (all_by (λ s. of_base (whole_stack q s).0 ≡ false) _ (λ s is. sym (any_map base_text (label_text (text_of q)) s.label) ∙ is) q.sample
     (all_unmapped (λ s. of_base s.0 ≡ false) (whole_stack q) q.sample
@@ -79,31 +80,31 @@ none_of_base p f config q keeps plain =
         subst (λ (x : StackText × _). Plain x.0) (same_Some (left_stack p f s stack) y found)
         (any_map base_text (label_text (text_of p)) (shown_labels p f s.label) ∙ none_kept (is_base_label p) (λ label. is_shown f (key_text p label)) s.label is)
 
-    ours : AllByRecursion (λ s. Plain s.0) (left_stacks p f config)
+    ours : AllByRecursion (λ s. Plain s.0) (left_stacks p f filtering)
     ours =
-        all_some (λ s. Plain s.0) (λ s. option_map (left_stack p f s) (filtered_stack p f config s)) p.sample
-        (all_by (λ s. is_base p s ≡ false) _ (λ s is y found. one s (filtered_stack p f config s) is y found) p.sample (none_each (is_base p) p.sample plain))
+        all_some (λ s. Plain s.0) (λ s. option_map (left_stack p f s) (filtered_stack p f filtering s)) p.sample
+        (all_by (λ s. is_base p s ≡ false) _ (λ s is y found. one s (filtered_stack p f filtering s) is y found) p.sample (none_each (is_base p) p.sample plain))
 
-    left : All Plain (without_values (left_stacks p f config))
-    left = All-from_recursion Plain (without_values (left_stacks p f config)) (all_mapped Plain (λ s. s.0) (left_stacks p f config) ours)
+    left : All Plain (without_values (left_stacks p f filtering))
+    left = All-from_recursion Plain (without_values (left_stacks p f filtering)) (all_mapped Plain (λ s. s.0) (left_stacks p f filtering) ours)
 
     theirs : All Plain (without_values (whole_stacks q))
     theirs =
-        All-weaker (Contains (without_values (left_stacks p f config))) Plain (λ s there. All-contains Plain (without_values (left_stacks p f config)) s left there)
+        All-weaker (Contains (without_values (left_stacks p f filtering))) Plain (λ s there. All-contains Plain (without_values (left_stacks p f filtering)) s left there)
         (without_values (whole_stacks q)) keeps.each
 
 -- Without a base, the total over filtered samples is what their absolute values add up to.
-pub relative_total : (p : Profile) (f : Finders) (config : Config) (column : Option ℕ) → config.relative_percentages ≡ true → list_any (is_base p) p.sample ≡ false
+pub relative_total : (p : Profile) (f : Finders) (config : Config) (column : Option ℕ) → config.presentation.relative_percentages ≡ true → list_any (is_base p) p.sample ≡ false
     → total_of p f config column ≡ absolute (seen_samples p f config column p.sample)
 relative_total p f config column relative plain =
-    ap (λ (b : Bool). total_over p config column (if b then filtered_samples p f config p.sample else p.sample)) relative
-    ∙ plain_total p config column (filtered_samples p f config p.sample) (none_among (is_base p) (λ s. is_some (filtered_stack p f config s)) p.sample plain)
+    ap (λ (b : Bool). total_over p config.presentation column (if b then filtered_samples p f config.filtering p.sample else p.sample)) relative
+    ∙ plain_total p config.presentation column (filtered_samples p f config.filtering p.sample) (none_among (is_base p) (λ s. is_some (filtered_stack p f config.filtering s)) p.sample plain)
     ∙ sym (absolute_seen p f config column p.sample)
 
 -- Without a column nothing adds up.
 pub nothing_adds_up : (p : Profile) (f : Finders) (config : Config) (xs : List Sample) → absolute (seen_samples p f config None xs) ≡ 0
 nothing_adds_up p f config [] = refl
-nothing_adds_up p f config (s ∷ xs) = by (filtered_stack p f config s) (nothing_adds_up p f config xs)
+nothing_adds_up p f config (s ∷ xs) = by (filtered_stack p f config.filtering s) (nothing_adds_up p f config xs)
   where
     by : (o : Option (List Frame)) → absolute (seen_samples p f config None xs) ≡ 0
         → absolute (cons_option (option_map (seen_with p config None s) o) (seen_samples p f config None xs)) ≡ 0

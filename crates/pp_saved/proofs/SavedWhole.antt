@@ -6,7 +6,6 @@ use Rattle.std.specs.Option.{option_map_or}
 use Rattle.std.proofs.lemmas.List.{length-map}
 use Rattle.std.proofs.lemmas.List.Elements.{All-tail, recursion_from_All}
 use Rattle.std.proofs.lemmas.Simd.{map-map}
-use Rattle.pp_model.specs.declared.config.Config.{Config}
 use Rattle.pp_model.specs.declared.frame.Frame.{Frame}
 use Rattle.pp_model.specs.declared.profile.Location.{Location}
 use Rattle.pp_model.specs.declared.profile.Profile.{Profile}
@@ -16,6 +15,7 @@ use Rattle.pp_model.specs.Finders.{no_finders}
 use Rattle.pp_model.specs.Frames.{stack_of}
 use Rattle.pp_model.specs.Lookup.{text_of, location_with}
 use Rattle.pp_model.specs.Rules.{AreNumbered, IsCompact, location_ids}
+use Rattle.pp_model.specs.Defaults.{standard_filtering}
 use Rattle.pp_model.proofs.CompactLemmas.{find_numbered, one_le_id, place_within}
 use Rattle.pp_model.proofs.RuleLemmas.{refers_from_valid, sample_at}
 use Rattle.pp_count.specs.Seeing.{filtered_stack}
@@ -31,12 +31,8 @@ use Rattle.pp_dump.specs.Saved.{cut_sample, cut_samples, saved_contents}
 use Rattle.pp_dump.proofs.WholeStacks.{all_shown, groups_located, none_dropped}
 use Rattle.pp_report.specs.SavedText.{IsLasting}
 use Rattle.pp_saved.specs.Kept.{SavedWhole}
-use Rattle.pp_saved.specs.Premises.{unfiltered}
 
-module _ (p : Profile) (lasts : IsLasting p) (config : Config) where
-  abbrev d : Config
-  d = unfiltered config
-
+module _ (p : Profile) (lasts : IsLasting p) where
   numbered : AreNumbered (location_ids p)
   numbered = let compact : IsCompact p = subst IsCompact lasts.settled (compact_written (contents p [])) in compact.locations
 
@@ -65,22 +61,22 @@ module _ (p : Profile) (lasts : IsLasting p) (config : Config) where
       ∙ ap (map whole_text) (groups_located p 0 s.location_id)
       ∙ all_located s.location_id refers
 
-  one_sample : (s : Sample) → RefersTo p s → option_map (cut_sample p no_finders s) (filtered_stack p no_finders d s) ≡ Some (sample_text found_text (text_of p) s)
+  one_sample : (s : Sample) → RefersTo p s → option_map (cut_sample p no_finders s) (filtered_stack p no_finders standard_filtering s) ≡ Some (sample_text found_text (text_of p) s)
   one_sample s refers =
-      ap (option_map (cut_sample p no_finders s)) (none_dropped p numbered d refl refl s)
+      ap (option_map (cut_sample p no_finders s)) (none_dropped p numbered standard_filtering refl refl s)
       ∙ (λ i. Some (record { locations = stack_located s refers i; labels = map (label_text (text_of p)) (all_shown p s.label i) }, s.value))
 
   each_sample : (xs : List Sample) → AllByRecursion (RefersTo p) xs
-      → filter_map (λ s. option_map (cut_sample p no_finders s) (filtered_stack p no_finders d s)) xs ≡ map (sample_text found_text (text_of p)) xs
+      → filter_map (λ s. option_map (cut_sample p no_finders s) (filtered_stack p no_finders standard_filtering s)) xs ≡ map (sample_text found_text (text_of p)) xs
   each_sample [] all = refl
   each_sample (s ∷ xs) all = λ i. cons_option (one_sample s all.0 i) (each_sample xs all.1 i)
 
-  samples_are : cut_samples p no_finders d ≡ all_samples (p ∷ [])
+  samples_are : cut_samples p no_finders standard_filtering ≡ all_samples (p ∷ [])
   samples_are =
       each_sample p.sample (recursion_from_All (RefersTo p) p.sample (λ k e within. refers_from_valid p (get_or p.sample k e) lasts.valid (sample_at p k e within)))
       ∙ sym (append-nil (map (sample_text found_text (text_of p)) p.sample))
 
-  contents_are : saved_contents p no_finders d ≡ contents p []
+  contents_are : saved_contents p no_finders standard_filtering ≡ contents p []
   contents_are = λ i. record {
     header = record (header_of p []) { drop_frames = sym lasts.drop i; keep_frames = sym lasts.keep i };
     samples = filter counts (summed same_sample (length p.sample_type) (samples_are i));
@@ -89,4 +85,4 @@ module _ (p : Profile) (lasts : IsLasting p) (config : Config) where
 
 -- It is itself.
 pub saved_whole : SavedWhole
-saved_whole p config lasts = ap written (contents_are p lasts config) ∙ lasts.settled
+saved_whole p lasts = ap written (contents_are p lasts) ∙ lasts.settled

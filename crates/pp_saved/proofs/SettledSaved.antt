@@ -11,10 +11,10 @@ use Rattle.std.proofs.lemmas.Map.Keys.{IsDistinct-cons, IsDistinct-head, IsDisti
 use Rattle.std.proofs.lemmas.Map.Made.{IsDistinct-keys_filter}
 use Rattle.std.proofs.lemmas.Option.{none-some, same_Some}
 use Rattle.pp_base.proofs.Lists.{all_by}
-use Rattle.pp_model.specs.declared.config.Config.{Config}
 use Rattle.pp_model.specs.declared.frame.Frame.{Frame}
 use Rattle.pp_model.specs.declared.profile.Mapping.{Mapping}
 use Rattle.pp_model.specs.declared.profile.Profile.{Profile}
+use Rattle.pp_model.specs.declared.filtering.Filtering.{Filtering}
 use Rattle.pp_model.specs.Finders.{Finders}
 use Rattle.pp_share.specs.Alike.{same_mapping, equal_mapping, same_sample}
 use Rattle.pp_share.specs.Described.{MappingText, LocationText, SampleText, mapping_text, mapping_found}
@@ -101,12 +101,12 @@ module _ (p : Profile) (starts : AllByRecursion (λ m. m.start < 2 ^ 64) (all_ma
       (all_both Among (λ y. equal_mapping x y ≡ false) xs among.1 (IsDistinct-head equal_mapping x xs apart)))
       (finer xs among.1 (IsDistinct-tail equal_mapping x xs apart))
 
-  module _ (f : Finders) (config : Config) where
+  module _ (f : Finders) (filtering : Filtering) where
     abbrev c : Contents
-    c = saved_contents p f config
+    c = saved_contents p f filtering
 
     fine : AllByRecursion Fine (locations c)
-    fine = locations_each p f config Fine cut_fine
+    fine = locations_each p f filtering Fine cut_fine
 
     among : AllByRecursion Among (mappings c)
     among =
@@ -115,11 +115,11 @@ module _ (p : Profile) (starts : AllByRecursion (λ m. m.start < 2 ^ 64) (all_ma
         (all_some Among (λ (l : LocationText). l.mapping) (locations c) (all_by Fine _ (λ l k. k.0) (locations c) fine)))
 
     counted : AllByRecursion (λ s. counts s ≡ true) c.samples
-    counted = recursion_from_All (λ s. counts s ≡ true) _ (filter_passes counts (summed same_sample (length p.sample_type) (cut_samples p f config)))
+    counted = recursion_from_All (λ s. counts s ≡ true) _ (filter_passes counts (summed same_sample (length p.sample_type) (cut_samples p f filtering)))
 
-    keys_apart : IsDistinct same_sample (keys_of same_sample (summed same_sample (length p.sample_type) (cut_samples p f config)))
+    keys_apart : IsDistinct same_sample (keys_of same_sample (summed same_sample (length p.sample_type) (cut_samples p f filtering)))
     keys_apart =
-        let items : List (SampleText × List ℤ) = cut_samples p f config in
+        let items : List (SampleText × List ℤ) = cut_samples p f filtering in
         let keys : List SampleText = distinct same_sample (keys_of same_sample items) in
         subst (IsDistinct same_sample)
         (sym (map_back (λ (item : SampleText × List ℤ). item.0) (λ key. (key, sum_of same_sample (length p.sample_type) items key)) keys (all_any _ (λ key. refl) keys)))
@@ -132,10 +132,10 @@ module _ (p : Profile) (starts : AllByRecursion (λ m. m.start < 2 ^ 64) (all_ma
     pub settled_saved : IsSettled c
     settled_saved = record {
       fits = record {
-        rows = all_by (λ s. length s.1 ≡ length p.sample_type) _ (λ s k. k ∙ sym types_length) c.samples (rows_long p f config);
-        typed = λ none. no_column c.samples (all_by (λ s. length s.1 ≡ length p.sample_type) _ (λ s k. k ∙ sym types_length ∙ none) c.samples (rows_long p f config)) counted;
+        rows = all_by (λ s. length s.1 ≡ length p.sample_type) _ (λ s k. k ∙ sym types_length) c.samples (rows_long p f filtering);
+        typed = λ none. no_column c.samples (all_by (λ s. length s.1 ≡ length p.sample_type) _ (λ s k. k ∙ sym types_length ∙ none) c.samples (rows_long p f filtering)) counted;
       };
-      apart = IsDistinct-keys_filter same_sample counts (summed same_sample (length p.sample_type) (cut_samples p f config)) keys_apart;
+      apart = IsDistinct-keys_filter same_sample counts (summed same_sample (length p.sample_type) (cut_samples p f filtering)) keys_apart;
       counted = counted;
       comments = own_settled.comments;
       duration = own_settled.duration;

@@ -8,13 +8,13 @@ use Rattle.pp_desk.specs.Asking.{Asking, go_on}
 use Rattle.pp_desk.specs.Asking as asking
 use Rattle.pp_desk.specs.Course.{course}
 use Rattle.pp_desk.specs.Script.{Script, Give, Make, WriteOut, WriteErr, ReadFile, WriteFile, Ask, NextLine, ◌>>=◌}
-use Rattle.pp_model.specs.declared.config.Config.{Config}
 use Rattle.pp_model.specs.declared.loaded.Loaded.{Loaded}
 use Rattle.pp_model.specs.declared.profile.Profile.{Profile}
 use Rattle.pp_model.specs.declared.report.Report.{Report}
 use Rattle.pp_model.specs.declared.verdicts.Slot.{Slot}
 use Rattle.pp_model.specs.declared.verdicts.Tag.{Tag}
 use Rattle.pp_model.specs.declared.verdicts.Verdicts.{Verdicts}
+use Rattle.pp_model.specs.declared.filtering.Filtering.{Filtering}
 use Rattle.pp_pattern.specs.Patterns.{judge_pattern, judge_option, judge_part, judge_parts}
 use Rattle.pp_pattern.specs.Report.{Finds, judge_frames, judge_filter, judge_tags, judge_names, judge_with, judge}
 use Rattle.pp_tags.specs.declared.tag_filter.TagFilter.{TagFilter}
@@ -115,14 +115,14 @@ module _ (finds : Finds) where
   gives_parts refused texts before (part ∷ parts) =
       both (judge_part finds refused texts part) _ (gives_part refused texts part) (λ found. gives_parts refused texts (before ++ found ∷ []) parts)
 
-  gives_frames : (config : Config) (texts : List (List ℕ)) → Gives (judge_frames finds config texts)
+  gives_frames : (filtering : Filtering) (texts : List (List ℕ)) → Gives (judge_frames finds filtering texts)
   unfolding judge_frames
-  gives_frames config texts =
-      both (judge_option finds _ texts config.focus) _ (gives_option _ texts config.focus)
-      (λ _. both (judge_option finds _ texts config.ignore) _ (gives_option _ texts config.ignore)
-      (λ _. both (judge_option finds _ texts config.hide) _ (gives_option _ texts config.hide)
-      (λ _. both (judge_option finds _ texts config.show) _ (gives_option _ texts config.show)
-      (λ _. both (judge_option finds _ texts config.show_from) _ (gives_option _ texts config.show_from) (λ _. tt)))))
+  gives_frames filtering texts =
+      both (judge_option finds _ texts filtering.focus) _ (gives_option _ texts filtering.focus)
+      (λ _. both (judge_option finds _ texts filtering.ignore) _ (gives_option _ texts filtering.ignore)
+      (λ _. both (judge_option finds _ texts filtering.hide) _ (gives_option _ texts filtering.hide)
+      (λ _. both (judge_option finds _ texts filtering.show) _ (gives_option _ texts filtering.show)
+      (λ _. both (judge_option finds _ texts filtering.show_from) _ (gives_option _ texts filtering.show_from) (λ _. tt)))))
 
   gives_filter : (slot : Slot) (p : Profile) (tags : List Tag) (filter : Option TagFilter) → Gives (judge_filter finds slot p tags filter)
   unfolding judge_filter
@@ -135,36 +135,36 @@ module _ (finds : Finds) where
       both (judge_filter finds _ p _ focus) _ (gives_filter _ p _ focus)
       (λ _. both (judge_filter finds _ p _ ignore) _ (gives_filter _ p _ ignore) (λ _. tt))
 
-  gives_names : (config : Config) (own : Option (List ℕ)) (texts : List (List ℕ)) → Gives (judge_names finds config own texts)
+  gives_names : (filtering : Filtering) (own : Option (List ℕ)) (texts : List (List ℕ)) → Gives (judge_names finds filtering own texts)
   unfolding judge_names
-  gives_names config own texts =
-      both (judge_option finds _ texts config.prune_from) _ (gives_option _ texts config.prune_from)
-      (λ _. both (judge_option finds _ texts config.tagshow) _ (gives_option _ texts config.tagshow)
-      (λ _. both (judge_option finds _ texts config.taghide) _ (gives_option _ texts config.taghide)
+  gives_names filtering own texts =
+      both (judge_option finds _ texts filtering.prune_from) _ (gives_option _ texts filtering.prune_from)
+      (λ _. both (judge_option finds _ texts filtering.tagshow) _ (gives_option _ texts filtering.tagshow)
+      (λ _. both (judge_option finds _ texts filtering.taghide) _ (gives_option _ texts filtering.taghide)
       (λ _. both (judge_option finds _ texts (unwrap_or own [])) _ (gives_option _ texts (unwrap_or own [])) (λ _. tt))))
 
-  gives_with : (config : Config) (own : Option (List ℕ)) (p : Profile) (focus ignore : Option TagFilter) → Gives (judge_with finds config own p focus ignore)
+  gives_with : (filtering : Filtering) (own : Option (List ℕ)) (p : Profile) (focus ignore : Option TagFilter) → Gives (judge_with finds filtering own p focus ignore)
   unfolding judge_with
-  gives_with config own p focus ignore =
-      both (judge_frames finds config p.text) _ (gives_frames config p.text)
+  gives_with filtering own p focus ignore =
+      both (judge_frames finds filtering p.text) _ (gives_frames filtering p.text)
       (λ _. both (judge_tags finds p focus ignore) _ (gives_tags p focus ignore)
-      (λ _. both (judge_names finds config own p.text) _ (gives_names config own p.text) (λ _. tt)))
+      (λ _. both (judge_names finds filtering own p.text) _ (gives_names filtering own p.text) (λ _. tt)))
 
-  module _ (l : Loaded) (report : Report) (config : Config) where
+  module _ (l : Loaded) (report : Report) (filtering : Filtering) where
     -- all patterns of a report
-    gives_judge : Gives (judge finds config (own_pattern report) l.profile)
-    gives_judge = gives_with config (own_pattern report) l.profile _ _
+    gives_judge : Gives (judge finds filtering (own_pattern report) l.profile)
+    gives_judge = gives_with filtering (own_pattern report) l.profile _ _
 
-    asked : (x : Verdicts) × GivesTaken (ask_patterns finds l report config) (Ok x)
+    asked : (x : Verdicts) × GivesTaken (ask_patterns finds l report filtering) (Ok x)
     unfolding ask_patterns
     asked =
-        let judged = given (judge finds config (own_pattern report) l.profile) gives_judge in
-        (judged.0, taken_then (judge finds config (own_pattern report) l.profile) (λ answer. Give (of_judged answer)) (Ok judged.0) (Ok judged.0) judged.1 refl)
+        let judged = given (judge finds filtering (own_pattern report) l.profile) gives_judge in
+        (judged.0, taken_then (judge finds filtering (own_pattern report) l.profile) (λ answer. Give (of_judged answer)) (Ok judged.0) (Ok judged.0) judged.1 refl)
 
     -- What is settled once all patterns were taken.
-    pub gives_counts : (s : Showing) → GivesTaken (prepare_counts finds l report config s) (Ok (settled_of finds l report config s))
+    pub gives_counts : (s : Showing) → GivesTaken (prepare_counts finds l report filtering s) (Ok (settled_of finds l report filtering s))
     unfolding prepare_counts asking.◌>>=◌
     gives_counts s =
         let first = asked in
-        let next : Verdicts → Asking ReportRefusal Settled = λ _. Give (Ok (settled_of finds l report config s)) in
-        taken_then (ask_patterns finds l report config) (go_on next) (Ok first.0) (Ok (settled_of finds l report config s)) first.1 refl
+        let next : Verdicts → Asking ReportRefusal Settled = λ _. Give (Ok (settled_of finds l report filtering s)) in
+        taken_then (ask_patterns finds l report filtering) (go_on next) (Ok first.0) (Ok (settled_of finds l report filtering s)) first.1 refl

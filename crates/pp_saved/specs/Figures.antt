@@ -4,6 +4,7 @@ use Rattle.std.specs.List.{list_any}
 use Rattle.std.specs.Ordering.{eq_by_cmp}
 use Rattle.pp_model.specs.declared.config.Config.{Config}
 use Rattle.pp_model.specs.declared.profile.Profile.{Profile}
+use Rattle.pp_model.specs.declared.grouping.Grouping.{Grouping}
 use Rattle.pp_model.specs.Finders.{Finders}
 use Rattle.pp_model.specs.FrameTexts.{Written}
 use Rattle.pp_grain.specs.Keys.{key_cmp, key_texts}
@@ -39,9 +40,9 @@ pub record Figures : Type 0 where
   pub sum_of_pair : (Written → Bool) → Written → Written → ℤ
 
 -- the frame's function text passes the test, and the key is the frame's
-abbrev pub is_found_frame : Config → (List ℕ → Bool) → Written → Written → Bool
-is_found_frame config test k w =
-    test w.function && eq_by_cmp key_cmp k (key_texts config.grain config.showcolumns w)
+abbrev pub is_found_frame : Grouping → (List ℕ → Bool) → Written → Written → Bool
+is_found_frame grouping test k w =
+    test w.function && eq_by_cmp key_cmp k (key_texts grouping.grain grouping.showcolumns w)
 
 -- The figures of a report on the profile, by what its patterns find.
 abbrev pub figures : Profile → Finders → Config → Option ℕ → Figures
@@ -55,7 +56,8 @@ figures p f config column =
       duration = p.duration_nanos;
       keys = each_once key_cmp (all_keys samples);
       finds = λ test k.
-          list_any (λ s. list_any (is_found_frame config test k) s.keys) (report_frames p f config column);
+          list_any (λ s. list_any (is_found_frame config.grouping test k) s.keys)
+          (report_frames p f config column);
       flat_of = flat key_cmp samples;
       cum_of = cum key_cmp samples;
       occurs_pair = λ kept. edge_occurs key_cmp kept samples;
@@ -65,4 +67,5 @@ figures p f config column =
 -- The figures of a report on the column that the configuration asks for. Where it asks for no sample type, None is all
 -- that there is.
 abbrev pub asked_figures : Profile → Finders → Config → Option Figures
-asked_figures p f config = option_map (figures p f config) (column_of p config.sample_index)
+asked_figures p f config =
+    option_map (figures p f config) (column_of p config.presentation.sample_index)

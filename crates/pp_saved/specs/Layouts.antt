@@ -5,9 +5,10 @@ use Rattle.std.specs.Option.{option_map_or}
 use Rattle.std.specs.Ordering.{then_cmp}
 use Rattle.std.specs.declared.cmp.Ordering.{Ordering}
 use Rattle.pp_model.specs.declared.config.Config.{Config}
-use Rattle.pp_model.specs.declared.config.Sort.{Sort}
-use Rattle.pp_model.specs.declared.config.Sort.TheVariants as sorts
+use Rattle.pp_model.specs.declared.presentation.Sort.{Sort}
+use Rattle.pp_model.specs.declared.presentation.Sort.TheVariants as sorts
 use Rattle.pp_model.specs.declared.profile.Profile.{Profile}
+use Rattle.pp_model.specs.declared.presentation.Presentation.{Presentation}
 use Rattle.pp_model.specs.Finders.{Finder, Finders}
 use Rattle.pp_model.specs.FrameTexts.{Written}
 use Rattle.pp_units.specs.Head.{Facts, facts_text}
@@ -62,14 +63,14 @@ module _ (g : Figures) where
         (λ callee. g.sum_of_pair kept k callee) g.keys);
   }
 
-  module _ (config : Config) where
+  module _ (presentation : Presentation) where
     -- whether the key's cum is at least nodefraction of the total
     abbrev pub is_heavy_key : Written → Bool
-    is_heavy_key k = is_heavy g.total config.nodefraction.billionths (g.cum_of k)
+    is_heavy_key k = is_heavy g.total presentation.nodefraction.billionths (g.cum_of k)
 
     -- the heavy keys, in report order
     abbrev pub candidates : List Written
-    candidates = each_once (order_by config.sort) (filter is_heavy_key g.keys)
+    candidates = each_once (order_by presentation.sort) (filter is_heavy_key g.keys)
 
     -- how many keys are not heavy
     abbrev pub light_keys : ℕ
@@ -79,7 +80,7 @@ module _ (g : Figures) where
     abbrev pub light_pairs : List Written → ℕ
     light_pairs shown =
         sum_by (λ caller. length (filter
-        (is_light_pair (λ k. has key_cmp k shown) config.edgefraction.billionths caller) shown)) shown
+        (is_light_pair (λ k. has key_cmp k shown) presentation.edgefraction.billionths caller) shown)) shown
 
     -- the text of the top report with this limit, where 0 is none
     abbrev pub top_layout : ℕ → Facts → List ℕ
@@ -98,12 +99,12 @@ module _ (g : Figures) where
         (length shown) (length candidates)
         ++ table_heading
         ++ tree_nodes_text h.unit h.total (pos 0)
-        (map (node (λ k. has key_cmp k shown) config.edgefraction.billionths) shown)
+        (map (node (λ k. has key_cmp k shown) presentation.edgefraction.billionths) shown)
 
     -- the text of the peek report by its own pattern
     abbrev pub peek_layout : Option Finder → Facts → List ℕ
     peek_layout own h =
-        let all = each_once (order_by config.sort) g.keys in
+        let all = each_once (order_by presentation.sort) g.keys in
         facts_text h
         ++ showing_line h.unit h.total (int_sum (map g.flat_of all))
         ++ table_heading
@@ -113,20 +114,23 @@ module _ (g : Figures) where
     -- the text of the table report with this limit, where 0 is none, and with this unit of the values
     abbrev pub table_layout : ℕ → List ℕ → List ℕ
     table_layout limit unit =
-        let all = each_once (order_by config.sort) g.keys in
+        let all = each_once (order_by presentation.sort) g.keys in
         table.exact_heading unit ++ table.table_rows (map row (shown_keys limit all))
 
 -- The texts of the four reports are these layouts of their figures.
 pub record AreLayouts (p : Profile) (f : Finders) (config : Config) (column : Option ℕ) : Type 0 where
   pub top : (limit : ℕ) (h : Facts)
-      → top.top_text p f config column limit h ≡ top_layout (figures p f config column) config limit h
+      → top.top_text p f config column limit h
+      ≡ top_layout (figures p f config column) config.presentation limit h
   pub tree : (limit : ℕ) (h : Facts)
-      → tree.tree_text p f config column limit h ≡ tree_layout (figures p f config column) config limit h
+      → tree.tree_text p f config column limit h
+      ≡ tree_layout (figures p f config column) config.presentation limit h
   pub peek : (h : Facts)
-      → peek_text p f config column h ≡ peek_layout (figures p f config column) config f.own h
+      → peek_text p f config column h
+      ≡ peek_layout (figures p f config column) config.presentation f.own h
   pub table : (limit : ℕ) (unit : List ℕ)
       → table.exact_table p f config column limit unit
-      ≡ table_layout (figures p f config column) config limit unit
+      ≡ table_layout (figures p f config column) config.presentation limit unit
 
 -- So they read nothing of the profile but its figures.
 abbrev pub LayoutsReadFigures : Type 0

@@ -26,7 +26,7 @@ use Rattle.pp_saved.specs.StaysSaved.{stays_saved}
 -- the figures of a report, None where it asks for a column that is no sample type
 abbrev pub report_figures : Finds → Loaded → Report → Config → Option Figures
 report_figures finds l report config =
-    asked_figures l.profile (report_finders finds l report config) config
+    asked_figures l.profile (report_finders finds l report config.filtering) config
 
 -- no pattern is refused
 abbrev pub AllTaken : List Answer → Type 0
@@ -58,19 +58,19 @@ pub record ReportsAlike (finds : Finds) (l r : Loaded) (c : Config) : Type 0 whe
 -- filtered samples, values are not divided, the tree is by keys, and no frames are made from labels.
 abbrev pub ReportsAsFiltered : Finds → Loaded → Config → Type 0
 ReportsAsFiltered finds l config =
-    (c : Config) → HasFiltersOf config c → CountsFiltered c → IsPlain c
-    → (r : Loaded) → IsSavedOf finds l config r → ReportsAlike finds l r c
+    (c : Config) → HasFiltersOf config c → CountsFiltered c.presentation → IsPlain c.presentation
+    → (r : Loaded) → IsSavedOf finds l config.filtering r → ReportsAlike finds l r c
 
 -- The text of a proto report.
 pub record IsSavedText (finds : Finds) (l : Loaded) (config : Config) (text : List ℕ) : Type 0 where
   -- it is the canonical bytes of the saved profile, and is read as that profile
-  pub bytes : text ≡ encode (saved_by finds l config)
-  pub again : read text ≡ Ok (saved_by finds l config)
+  pub bytes : text ≡ encode (saved_by finds l config.filtering)
+  pub again : read text ≡ Ok (saved_by finds l config.filtering)
   -- no table rule fails in it, merged alone it stays as it is, and no frames are dropped or kept by patterns of its own
-  pub lasts : IsLasting (saved_by finds l config)
+  pub lasts : IsLasting (saved_by finds l config.filtering)
   -- its columns can be added up, so that it is merged
   pub sums : (column : ℕ) → column < length l.profile.sample_type
-      → absolute_sum (saved_by finds l config) column ≤ 2 ^ 63 - 1
+      → absolute_sum (saved_by finds l config.filtering) column ≤ 2 ^ 63 - 1
   -- it reports as its filters did
   pub reports : IsSource l.profile → ReportsAsFiltered finds l config
 
@@ -79,6 +79,6 @@ pub record IsSavedText (finds : Finds) (l : Loaded) (config : Config) (text : Li
 abbrev pub SavedBytes : Type 0
 SavedBytes =
     (finds : Finds) (l : Loaded) (config : Config) (text : List ℕ)
-    → IsCountable l.profile → NamesNoKey config
-    → IsProtoBy finds (basis_of reports.Proto l config) config text
+    → IsCountable l.profile → NamesNoKey config.presentation
+    → IsProtoBy finds (basis_of reports.Proto l config.presentation) config.filtering text
     → IsSavedText finds l config text

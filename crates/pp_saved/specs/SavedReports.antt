@@ -6,6 +6,8 @@ use Rattle.pp_model.specs.declared.profile.Profile.{Profile}
 use Rattle.pp_model.specs.declared.report.BaseKind.{BaseKind}
 use Rattle.pp_model.specs.declared.report.Report.{Report}
 use Rattle.pp_model.specs.declared.report.Report.TheVariants as reports
+use Rattle.pp_model.specs.declared.presentation.Presentation.{Presentation}
+use Rattle.pp_model.specs.declared.filtering.Filtering.{Filtering}
 use Rattle.pp_model.specs.Conditions.{IsColumnOf}
 use Rattle.pp_pattern.specs.Report.{Finds}
 use Rattle.pp_pseudo.specs.KeyList.{key_list}
@@ -17,29 +19,31 @@ use Rattle.pp_saved.specs.Premises.{CanSave, unfiltered}
 use Rattle.pp_saved.specs.StaysSaved.{stays_saved}
 
 -- the profile that a proto report writes
-abbrev pub saved_by : Finds → Loaded → Config → Profile
-saved_by finds l config = saved l.profile (report_finders finds l reports.Proto config) config
+abbrev pub saved_by : Finds → Loaded → Filtering → Profile
+saved_by finds l filtering =
+    saved l.profile (report_finders finds l reports.Proto filtering) filtering
 
 -- The profile is what a proto report of the other one writes, loaded without any pattern of its own.
-pub record IsSavedOf (finds : Finds) (l : Loaded) (config : Config) (r : Loaded) : Type 0 where
-  pub profile : r.profile ≡ saved_by finds l config
+pub record IsSavedOf (finds : Finds) (l : Loaded) (filtering : Filtering) (r : Loaded) : Type 0 where
+  pub profile : r.profile ≡ saved_by finds l filtering
   pub drop : r.drop ≡ None
   pub keep : r.keep ≡ None
 
 -- No frames are made from labels.
-pub record NamesNoKey (config : Config) : Type 0 where
-  pub roots : key_list config.tagroot ≡ []
-  pub leaves : key_list config.tagleaf ≡ []
+pub record NamesNoKey (presentation : Presentation) : Type 0 where
+  pub roots : key_list presentation.tagroot ≡ []
+  pub leaves : key_list presentation.tagleaf ≡ []
 
 -- The tree is by keys, and no frames are made from labels.
-pub record IsPlain (config : Config) : Type 0 where
-  pub path_tree : config.path_tree ≡ false
-  pub keyless : NamesNoKey config
+pub record IsPlain (presentation : Presentation) : Type 0 where
+  pub path_tree : presentation.path_tree ≡ false
+  pub keyless : NamesNoKey presentation
 
 -- Under the second configuration the report of r shows what that of l shows under the first, or is refused likewise;
 -- and it comes to the same text, or finds no function as well, whatever bases were given.
 pub record ReportAlike (finds : Finds) (l r : Loaded) (report : Report) (config d : Config) : Type 0 where
-  pub shows : showing_for report r.profile d ≡ showing_for report l.profile config
+  pub shows : showing_for report r.profile d.presentation
+      ≡ showing_for report l.profile config.presentation
   pub comes_to : (showing : Showing) → IsColumnOf l.profile showing.column
       → (base other : Option BaseKind)
       → finish finds r other report d showing ≡ finish finds l base report config showing
@@ -49,5 +53,6 @@ pub record ReportAlike (finds : Finds) (l r : Loaded) (report : Report) (config 
 abbrev pub SavedReports : Type 0
 SavedReports =
     (finds : Finds) (l r : Loaded) (report : Report) (config : Config)
-    → stays_saved report ≡ true → CanSave l.profile config → IsPlain config
-    → IsSavedOf finds l config r → ReportAlike finds l r report config (unfiltered config)
+    → stays_saved report ≡ true → CanSave l.profile config.presentation
+    → IsPlain config.presentation
+    → IsSavedOf finds l config.filtering r → ReportAlike finds l r report config (unfiltered config)

@@ -17,8 +17,8 @@ pub fn saved_reports()
 // What would break it: bytes that are not read as what was saved, or filters that are lost or applied twice.
 /// The text of a proto report is read as the profile that was saved. That profile keeps the table rules, stays as it is
 /// when it is merged alone, and has no patterns of its own. Its columns can be added up, so it can be merged. Without
-/// filters it has the figures that the loaded one has with them, and its top, tree, peek, table and folded come to the
-/// same text or refusal.
+/// filters it has the figures that the loaded one has with them. Then its top, tree, peek, table and folded also come to
+/// the same text or refusal.
 ///
 /// Premises: tagroot and tagleaf name no key, and the loaded profile is countable, which `pp_report::generate` asks for.
 /// The text is one of which the clause `saved` of `generate` speaks. For the reports also the premises of

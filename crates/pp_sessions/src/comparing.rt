@@ -7,7 +7,7 @@ use pp_transcripts::{Failure, Fault, Object, Session, Trial};
 
 /// In what a run differs from what it owes.
 #[derive(Clone, Copy)]
-pub enum Difference<'a> {
+pub enum RunDifference<'a> {
     Status,
     Out,
     Err,
@@ -20,18 +20,18 @@ pub enum Difference<'a> {
 }
 
 /// The first difference of a run without a failure.
-pub fn session_difference<'a>(session: &'a Session, left: &Left) -> Option<Difference<'a>> {
+pub fn session_difference<'a>(session: &'a Session, left: &Left) -> Option<RunDifference<'a>> {
     let owed = &session.transcript.owed;
     if left.err.calm.bytes().as_slice() != owed.err.as_slice() {
-        Some(Difference::Err)
+        Some(RunDifference::Err)
     } else if left.out.calm.bytes().as_slice() != owed.out.as_slice() {
-        Some(Difference::Out)
+        Some(RunDifference::Out)
     } else if left.status != owed.status {
-        Some(Difference::Status)
+        Some(RunDifference::Status)
     } else if left.others > 0 {
-        Some(Difference::OtherFile)
+        Some(RunDifference::OtherFile)
     } else {
-        Some(Difference::File(different_file(session, left)?))
+        Some(RunDifference::File(different_file(session, left)?))
     }
 }
 
@@ -64,16 +64,16 @@ pub fn trial_difference<'a>(
     left: &Left,
     trial: Trial,
     calls: u64,
-) -> Option<Difference<'a>> {
+) -> Option<RunDifference<'a>> {
     let made = left.calls.of(trial.fault.object);
     if trial.call == calls {
         if made.number != calls {
-            return Some(Difference::Calls);
+            return Some(RunDifference::Calls);
         }
         return session_difference(session, left);
     }
     if made.faults == 0 {
-        return Some(Difference::Calls);
+        return Some(RunDifference::Calls);
     }
     failure_difference(session, left, trial.fault)
 }
@@ -83,7 +83,7 @@ fn failure_difference<'a>(
     session: &'a Session,
     left: &Left,
     fault: Fault,
-) -> Option<Difference<'a>> {
+) -> Option<RunDifference<'a>> {
     let is_told = if fault.failure == Failure::Refusal && is_in_shell(left) {
         refusal_difference(session, left)
     } else {
@@ -91,24 +91,24 @@ fn failure_difference<'a>(
     };
     match is_told {
         Some(difference) => Some(difference),
-        None if left.others > 0 => Some(Difference::OtherFile),
+        None if left.others > 0 => Some(RunDifference::OtherFile),
         None => unowed_file(session, left),
     }
 }
 
 // A run that the failure ended: fronts of what the session owes, and the line of the failure.
-fn stop<'a>(session: &'a Session, left: &Left, fault: Fault) -> Option<Difference<'a>> {
+fn stop<'a>(session: &'a Session, left: &Left, fault: Fault) -> Option<RunDifference<'a>> {
     let owed = &session.transcript.owed;
     if !is_told_last(owed.err.as_slice(), left.err.calm.bytes().as_slice(), fault) {
-        Some(Difference::Err)
+        Some(RunDifference::Err)
     } else if !owed
         .out
         .as_slice()
         .starts_with(left.out.calm.bytes().as_slice())
     {
-        Some(Difference::Out)
+        Some(RunDifference::Out)
     } else if left.status != fault.status() {
-        Some(Difference::Status)
+        Some(RunDifference::Status)
     } else {
         None
     }
@@ -126,13 +126,13 @@ fn is_told_last(owed: &[u8], left: &[u8], fault: Fault) -> bool {
 }
 
 // A file that holds neither what it held before nor a front of what it owes.
-fn unowed_file<'a>(session: &'a Session, left: &Left) -> Option<Difference<'a>> {
+fn unowed_file<'a>(session: &'a Session, left: &Left) -> Option<RunDifference<'a>> {
     let path = session.paths.as_slice().iter().find(|path| {
         let content = left.files.content(path);
         !is_same(content, session.before.content(path))
             && !is_front(content, session.after.content(path))
     })?;
-    Some(Difference::File(path))
+    Some(RunDifference::File(path))
 }
 
 fn is_front(left: Option<&Text>, owed: Option<&Text>) -> bool {

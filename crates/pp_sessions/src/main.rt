@@ -19,14 +19,14 @@ use machine::Machine;
 use pp_base::{Memory, Text, write_all};
 use pp_real::{Output, read_words};
 use pp_transcripts::{Folder, Transcript, Unready, transcripts_of};
-use report::Report;
+use report::SessionReport;
 use runs::run_all;
 use std::process::ExitCode;
 use std::str;
 use std::thread::Threads;
 
 fn main(rt: HostRuntime) -> ExitCode {
-    let mut report = Report::new(rt.alloc());
+    let mut report = SessionReport::new(rt.alloc());
     let machine = Machine {
         threads: &rt,
         host: &rt,
@@ -38,7 +38,10 @@ fn main(rt: HostRuntime) -> ExitCode {
     ExitCode::from(u8::from(!(is_whole && is_told && report.all_as_owed())))
 }
 
-fn run_files<R: Threads + Sync>(machine: &Machine<R>, report: &mut Report) -> Result<(), Memory> {
+fn run_files<R: Threads + Sync>(
+    machine: &Machine<R>,
+    report: &mut SessionReport,
+) -> Result<(), Memory> {
     for name in &read_words(machine.host, machine.alloc)? {
         run_file(machine, name, report)?;
     }
@@ -48,7 +51,7 @@ fn run_files<R: Threads + Sync>(machine: &Machine<R>, report: &mut Report) -> Re
 fn run_file<R: Threads + Sync>(
     machine: &Machine<R>,
     name: &Text,
-    report: &mut Report,
+    report: &mut SessionReport,
 ) -> Result<(), Memory> {
     let mut folder = Folder::of(machine.host, machine.alloc, name)?;
     match folder.read(name) {
@@ -62,7 +65,7 @@ fn run_text<R: Threads + Sync>(
     name: &Text,
     text: &Text,
     folder: &mut Folder,
-    report: &mut Report,
+    report: &mut SessionReport,
 ) -> Result<(), Memory> {
     let Ok(text) = str::from_utf8(text.as_slice()) else {
         return report.refuse(name, None, b"not UTF-8");
@@ -84,7 +87,7 @@ fn run_transcript<R: Threads + Sync>(
     name: &Text,
     transcript: &Transcript,
     folder: &mut Folder,
-    report: &mut Report,
+    report: &mut SessionReport,
 ) -> Result<(), Memory> {
     match folder.session(transcript) {
         Ok(session) => run_all(machine, &session, report),
@@ -96,7 +99,7 @@ fn refuse(
     name: &Text,
     line: Option<u64>,
     unready: Unready,
-    report: &mut Report,
+    report: &mut SessionReport,
 ) -> Result<(), Memory> {
     match unready {
         Unready::NoFile(path) => {

@@ -1,6 +1,6 @@
 //! What a run left in which a pattern was refused.
 
-use crate::comparing::{Difference, different_file, is_different, is_same};
+use crate::comparing::{RunDifference, different_file, is_different, is_same};
 use crate::stage::Left;
 use pp_base::Text;
 use pp_transcripts::Session;
@@ -16,16 +16,16 @@ pub fn is_in_shell(left: &Left) -> bool {
 
 /// The first difference of a run in whose shell a pattern was refused. One report is left out, a line tells of the
 /// refusal, and the session goes on. All else is as owed.
-pub fn refusal_difference<'a>(session: &'a Session, left: &Left) -> Option<Difference<'a>> {
+pub fn refusal_difference<'a>(session: &'a Session, left: &Left) -> Option<RunDifference<'a>> {
     let owed = &session.transcript.owed;
     if !is_refused_once(owed.err.as_slice(), left.err.calm.bytes().as_slice()) {
-        Some(Difference::Err)
+        Some(RunDifference::Err)
     } else if !is_out_whole(session, left)
         && !lacks_a_report(owed.out.as_slice(), left.out.calm.bytes().as_slice())
     {
-        Some(Difference::Out)
+        Some(RunDifference::Out)
     } else if left.status != owed.status {
-        Some(Difference::Status)
+        Some(RunDifference::Status)
     } else {
         unwritten_difference(session, left)
     }
@@ -36,12 +36,12 @@ fn is_out_whole(session: &Session, left: &Left) -> bool {
 }
 
 // Where standard output lacks no report, a file was not written. Where none was due, the refusal is in the place of a line.
-fn unwritten_difference<'a>(session: &'a Session, left: &Left) -> Option<Difference<'a>> {
+fn unwritten_difference<'a>(session: &'a Session, left: &Left) -> Option<RunDifference<'a>> {
     let is_whole = is_out_whole(session, left);
     match different_file(session, left) {
         Some(path) if is_whole && is_alone_unwritten(session, left, path) => None,
-        Some(path) => Some(Difference::File(path)),
-        None if is_whole && !has_as_many_lines(session, left) => Some(Difference::Err),
+        Some(path) => Some(RunDifference::File(path)),
+        None if is_whole && !has_as_many_lines(session, left) => Some(RunDifference::Err),
         None => None,
     }
 }

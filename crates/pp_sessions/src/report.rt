@@ -1,6 +1,6 @@
 //! What is printed of a file of transcripts.
 
-use crate::comparing::Difference;
+use crate::comparing::RunDifference;
 use crate::stage::Left;
 use itoa::Buffer;
 use pp_base::{Memory, Text};
@@ -12,7 +12,7 @@ const SHOWN_LINES: usize = 40;
 
 /// The printed text, and what was counted of the present file.
 #[derive(Drop)]
-pub struct Report {
+pub struct SessionReport {
     pub text: Text,
     sessions: u64,
     differing: u64,
@@ -26,9 +26,9 @@ pub struct Run<'a> {
     pub trial: Option<Trial>,
 }
 
-impl Report {
+impl SessionReport {
     pub fn new(alloc: Global) -> Self {
-        Report {
+        SessionReport {
             text: Text::new(alloc),
             sessions: 0,
             differing: 0,
@@ -47,7 +47,7 @@ impl Report {
         session: &Session,
         run: Run,
         left: &Left,
-        difference: Option<Difference>,
+        difference: Option<RunDifference>,
     ) -> Result<(), Memory> {
         self.sessions = self.sessions.saturating_add(1);
         let Some(difference) = difference else {
@@ -124,18 +124,18 @@ impl Report {
         session: &Session,
         left: &Left,
         run: Run,
-        difference: Difference,
+        difference: RunDifference,
     ) -> Result<(), Memory> {
         let owed = &session.transcript.owed;
         match difference {
-            Difference::Out => self.put_both(b">", &owed.out, left.out.calm.bytes()),
-            Difference::Err => self.put_both(b"!", &owed.err, left.err.calm.bytes()),
-            Difference::Status => self.put_numbers(
+            RunDifference::Out => self.put_both(b">", &owed.out, left.out.calm.bytes()),
+            RunDifference::Err => self.put_both(b"!", &owed.err, left.err.calm.bytes()),
+            RunDifference::Status => self.put_numbers(
                 b"= ",
                 u64::from(owed.status),
                 u64::from(left.status),
             ),
-            Difference::Calls => match run.trial {
+            RunDifference::Calls => match run.trial {
                 Some(trial) => {
                     self.put_numbers(
                         b"calls: ",
@@ -145,8 +145,10 @@ impl Report {
                 }
                 None => Ok(()),
             },
-            Difference::OtherFile => self.text.extend(b"a file that no line names was written\n"),
-            Difference::File(path) => {
+            RunDifference::OtherFile => self
+                .text
+                .extend(b"a file that no line names was written\n"),
+            RunDifference::File(path) => {
                 self.put_file(b"owed", path, session.after.content(path))?;
                 self.put_file(b"left", path, left.files.content(path))
             }

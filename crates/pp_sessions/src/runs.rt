@@ -2,7 +2,7 @@
 
 use crate::comparing::{session_difference, trial_difference};
 use crate::machine::Machine;
-use crate::report::{Report, Run};
+use crate::report::{Run, SessionReport};
 use crate::stage::left_by;
 use pp_base::{List, Memory, Text};
 use pp_transcripts::{Fault, Session, Trial};
@@ -13,7 +13,7 @@ use std::thread::Threads;
 pub fn run_all<R: Threads + Sync>(
     machine: &Machine<R>,
     session: &Session,
-    report: &mut Report,
+    report: &mut SessionReport,
 ) -> Result<(), Memory> {
     for words in session.transcript.commands.as_slice() {
         if session.transcript.workers.len() == 0 {
@@ -42,7 +42,7 @@ fn run_words<R: Threads + Sync>(
     machine: &Machine<R>,
     session: &Session,
     words: &[Text],
-    report: &mut Report,
+    report: &mut SessionReport,
 ) -> Result<(), Memory> {
     run_whole(machine, session, words, report)?;
     for (fault, calls) in session.transcript.faults.as_slice() {
@@ -56,7 +56,7 @@ fn run_whole<R: Threads + Sync>(
     machine: &Machine<R>,
     session: &Session,
     words: &[Text],
-    report: &mut Report,
+    report: &mut SessionReport,
 ) -> Result<(), Memory> {
     let left = left_by(machine, session, words, None)?;
     let run = Run { words, trial: None };
@@ -70,7 +70,7 @@ fn run_trials<R: Threads + Sync>(
     words: &[Text],
     fault: Fault,
     calls: u64,
-    report: &mut Report,
+    report: &mut SessionReport,
 ) -> Result<(), Memory> {
     for call in 0..=calls {
         run_trial(
@@ -92,7 +92,7 @@ fn run_trial<R: Threads + Sync>(
     words: &[Text],
     trial: Trial,
     calls: u64,
-    report: &mut Report,
+    report: &mut SessionReport,
 ) -> Result<(), Memory> {
     let left = left_by(machine, session, words, Some(trial))?;
     let found = trial_difference(session, &left, trial, calls);

@@ -94,10 +94,10 @@ pub fn left_by<R: Threads + Sync>(
 ) -> Result<Left, Memory> {
     let calls = AllCalls::before(trial);
     let alloc = machine.alloc;
-    if session.transcript.given.is_real {
+    if session.transcript.setup.is_real {
         return left_on_machine(machine, session, words, calls);
     }
-    match &session.transcript.given.patterns {
+    match &session.transcript.setup.patterns {
         Patterns::Regular => {
             let matcher = RegexMatcher::new(alloc);
             left_in_memory(machine, session, words, calls, matcher)
@@ -201,7 +201,7 @@ fn files_in_memory(
     session: &Session,
     calls: AllCalls,
 ) -> Result<TrialFiles, Memory> {
-    let locked = copied(alloc, &session.transcript.given.locked)?;
+    let locked = copied(alloc, &session.transcript.setup.locked)?;
     Ok(TrialFiles {
         calm: CalmFiles::new(alloc, session.before.copied()?, locked),
         calls: calls.files,
@@ -211,7 +211,7 @@ fn files_in_memory(
 }
 
 fn source_of(alloc: Global, session: &Session, calls: AllCalls) -> Result<TrialSource, Memory> {
-    let input = Text::from_slice(alloc, session.transcript.given.input.as_slice())?;
+    let input = Text::from_slice(alloc, session.transcript.setup.input.as_slice())?;
     Ok(TrialSource {
         calm: CalmSource::new(input, INPUT_PIECE),
         calls: calls.input,

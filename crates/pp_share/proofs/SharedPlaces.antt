@@ -1,4 +1,5 @@
--- A profile with each mapping and each location once says, as it stands, what it said with mappings as the first ones of their kind.
+-- A profile with each mapping and each location once says, as it stands, what it said with mappings as the first ones
+-- of their kind.
 use Rattle.std.proofs.Common.{◌≡◌, ℕ, ◌+◌, ◌-◌, ◌<◌, ◌≤◌, Bool, true, false, true≢false, ◌&&◌, nat_eq, ℤ, pos, List, [], ◌∷◌, map, length, get_or, Option, None, Some, refl, sym, ap, subst, ◌∙◌, if◌then◌else◌, arith}
 use Rattle.std.specs.Prelude.{slice_get}
 use Rattle.std.specs.Ordering.{int_eq}

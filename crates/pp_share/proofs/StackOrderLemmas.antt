@@ -8,11 +8,13 @@ use Rattle.std.specs.declared.cmp.Ordering.{Ordering}
 use Rattle.std.specs.declared.cmp.Ordering.TheVariants.{Less, Equal, Greater}
 use Rattle.pp_model.specs.declared.profile.Label.{Label}
 use Rattle.pp_model.specs.declared.profile.Sample.{Sample}
+use Rattle.pp_share.specs.declared.repeats.KindBy.{KindBy}
+use Rattle.pp_share.specs.declared.repeats.KindBy.TheVariants.{Hash, Stack}
 use Rattle.pp_share.specs.declared.repeats.Placed.{Placed}
-use Rattle.pp_share.specs.Renumbered.{NewIds, renumbered_label, renumbered_sample}
+use Rattle.pp_share.specs.Renumbered.{NewIds, new_ids, renumbered_label, renumbered_sample}
 use Rattle.pp_share.specs.SampleKeys.{sample_stack}
 use Rattle.pp_share.specs.SampleStacks.{equal_label, same_stack}
-use Rattle.pp_share.specs.StackOrder.{id_cmp, text_cmp, label_cmp, stack_cmp, kind_cmp}
+use Rattle.pp_share.specs.StackOrder.{hash_cmp, id_cmp, text_cmp, label_cmp, stack_cmp, hash_stack_cmp, kind_cmp}
 
 -- one index more of which a fact holds
 pub one_further : (P : ℕ → Type 0) (end : ℕ) → ((k : ℕ) → k < end → P k) → P end → (k : ℕ) → k < end + 1 → P k
@@ -68,6 +70,10 @@ pointwise-map E f [] (y ∷ ys) = refl
 pointwise-map E f (x ∷ xs) [] = refl
 pointwise-map E f (x ∷ xs) (y ∷ ys) = ap (λ b. E (f x) (f y) && b) (pointwise-map E f xs ys)
 
+-- all orders of kinds are total
+pub hash_total : IsTotalOrder hash_cmp
+hash_total = on_total (λ (p : Placed). p.hash) nat_cmp_total
+
 module _ (by : NewIds) where
   text_total : IsTotalOrder (text_cmp by)
   text_total = on_total by.text int_cmp_total
@@ -78,9 +84,9 @@ module _ (by : NewIds) where
       (then_total (on_total (λ (l : Label). l.text) text_total)
       (then_total (on_total (λ (l : Label). l.num) int_cmp_total) (on_total (λ (l : Label). l.num_unit) text_total)))
 
-  pub kind_total : IsTotalOrder (kind_cmp by)
-  kind_total =
-      then_total (on_total (λ (p : Placed). p.hash) nat_cmp_total)
+  pub hash_stack_total : IsTotalOrder (hash_stack_cmp by)
+  hash_stack_total =
+      then_total hash_total
       (on_total (λ (p : Placed). p.sample.now)
       (then_total (on_total (λ (s : Sample). s.location_id) (lists_total (on_total by.location nat_cmp_total)))
       (on_total (λ (s : Sample). s.label) (lists_total label_total))))
@@ -101,3 +107,7 @@ module _ (by : NewIds) where
       (pointwise-map (λ i j. i == j) by.location a.location_id b.location_id
       ∙ lists_ties (id_cmp by) (λ i j. unsigned_ties (by.location i) (by.location j)) a.location_id b.location_id)
       (pointwise-map equal_label (renumbered_label by) a.label b.label ∙ lists_ties (label_cmp by) label_ties a.label b.label)
+
+pub kind_total : (kind : KindBy) → IsTotalOrder (kind_cmp kind)
+kind_total Hash = hash_total
+kind_total (Stack by) = hash_stack_total (new_ids by.now)

@@ -1,4 +1,5 @@
--- The walk over a profile whose tables stand once meets the locations, mappings and functions that are written of what it says.
+-- The walk over a profile whose tables stand once meets the locations, mappings and functions that are written of what
+-- it says.
 use Rattle.std.proofs.Common.{◌≡◌, ℕ, List, [], ◌∷◌, ◌++◌, Some, length, refl, sym, ap, subst, ◌∙◌}
 use Rattle.std.specs.Prelude.{slice_get}
 use Rattle.std.specs.List.{AllByRecursion, filter_map, flat_map, cons_option}

@@ -1,6 +1,7 @@
 -- Samples that are equal to earlier ones once they have their new ids.
 use Rattle.std.specs.Prelude.{◌≡◌, ℕ, ℤ, pos, ◌/◌, ◌%◌, ◌^◌, ◌<◌, ◌≤◌, ◌==◌, Bool, true, false, List, All, Contains, length, slice_index_or, slice_set, map}
 use Rattle.std.specs.List.{list_any}
+use Rattle.std.specs.declared.cmp.Ordering.{Ordering}
 use Rattle.std.specs.declared.cmp.Ordering.TheVariants.{Equal}
 use Rattle.pp_model.specs.declared.profile.Label.{Label}
 use Rattle.pp_model.specs.declared.profile.Sample.{Sample}
@@ -12,7 +13,6 @@ use Rattle.pp_share.specs.Renumbered.{NewIds, renumbered_sample}
 use Rattle.pp_share.specs.SampleKeys.{sample_stack}
 use Rattle.pp_share.specs.SampleStacks.{same_stack}
 use Rattle.pp_share.specs.Sums.{added}
-use Rattle.pp_share.specs.StackOrder.{kind_cmp}
 
 -- the class of the hash, of eight: of a number of 64 bits its three upper ones
 abbrev pub class_of : ℕ → ℕ
@@ -30,6 +30,10 @@ module _ (by : NewIds) where
   -- no sample before the place is equal to the one there
   abbrev pub IsFirst : List Sample → ℕ → Type 0
   IsFirst samples place = (k : ℕ) → k < place → same_stack (stack_at samples k) (stack_at samples place) ≡ false
+
+  -- the two samples are equal
+  abbrev pub AreEqual : List Sample → Repeat → Type 0
+  AreEqual samples r = same_stack (stack_at samples r.first) (stack_at samples r.later) ≡ true
 
   -- a sample and the first one that is equal to it
   pub record IsRepeat (samples : List Sample) (r : Repeat) : Type 0 where
@@ -50,16 +54,18 @@ module _ (by : NewIds) where
     pub others : (place : ℕ) → place < length samples → class_of (hash_by by (slice_index_or samples place no_sample)) < class
         → is_later repeats place ≡ false → IsFirst samples place
 
+-- Kinds of samples: those that are level in an order.
+module _ (order : Placed → Placed → Ordering) where
   -- no sample of the kind stands at an earlier place
   abbrev pub IsLeast : List Placed → Placed → Type 0
-  IsLeast placed one = All (λ other. kind_cmp by other one ≡ Equal → one.place ≤ other.place) placed
+  IsLeast placed one = All (λ other. order other one ≡ Equal → one.place ≤ other.place) placed
 
   -- the first place of the kind of the sample at the index
   pub record BeginsKind (placed : List Placed) (index first : ℕ) : Type 0 where
     pub one : Placed
     pub has : Contains placed one
     pub at : first ≡ one.place
-    pub kind : (d : Placed) → kind_cmp by one (slice_index_or placed index d) ≡ Equal
+    pub kind : (d : Placed) → order one (slice_index_or placed index d) ≡ Equal
     pub least : IsLeast placed one
 
   -- two samples of one kind, of which the first has the least place
@@ -71,7 +77,7 @@ module _ (by : NewIds) where
     pub first : r.first ≡ one.place
     pub later : r.later ≡ other.place
     pub earlier : r.first < r.later
-    pub kind : kind_cmp by one other ≡ Equal
+    pub kind : order one other ≡ Equal
     pub least : IsLeast placed one
 
   -- the repeats among the samples up to the index: each other one has the least place of its kind

@@ -5,8 +5,14 @@ use Rattle.std.specs.Ordering.{nat_cmp, int_cmp, ordering_then}
 use Rattle.std.specs.declared.cmp.Ordering.{Ordering}
 use Rattle.pp_model.specs.declared.profile.Label.{Label}
 use Rattle.pp_model.specs.declared.profile.Sample.{Sample}
-use Rattle.pp_share.specs.Renumbered.{NewIds}
+use Rattle.pp_share.specs.Renumbered.{NewIds, new_ids}
+use Rattle.pp_share.specs.declared.repeats.KindBy.{KindBy}
+use Rattle.pp_share.specs.declared.repeats.KindBy.TheVariants.{Hash, Stack}
 use Rattle.pp_share.specs.declared.repeats.Placed.{Placed}
+
+-- by hash alone
+abbrev pub hash_cmp : Placed → Placed → Ordering
+hash_cmp a b = nat_cmp a.hash b.hash
 
 module _ (by : NewIds) where
   -- by the new ids
@@ -27,10 +33,15 @@ module _ (by : NewIds) where
   abbrev pub stack_cmp : Sample → Sample → Ordering
   stack_cmp a b = ordering_then (slice_cmp id_cmp a.location_id b.location_id) (slice_cmp label_cmp a.label b.label)
 
-  -- by hash, and then by what tells samples apart
-  abbrev pub kind_cmp : Placed → Placed → Ordering
-  kind_cmp a b = ordering_then (nat_cmp a.hash b.hash) (stack_cmp a.sample.now b.sample.now)
+  -- by hash, and then by locations and labels
+  abbrev pub hash_stack_cmp : Placed → Placed → Ordering
+  hash_stack_cmp a b = ordering_then (hash_cmp a b) (stack_cmp a.sample.now b.sample.now)
 
-  -- by kind, and then by place
-  abbrev pub placed_cmp : Placed → Placed → Ordering
-  placed_cmp a b = ordering_then (kind_cmp a b) (nat_cmp a.place b.place)
+-- by what makes samples one kind
+abbrev pub kind_cmp : KindBy → Placed → Placed → Ordering
+kind_cmp Hash = hash_cmp
+kind_cmp (Stack by) = hash_stack_cmp (new_ids by.now)
+
+-- by an order, and then by place
+abbrev pub placed_cmp : (Placed → Placed → Ordering) → Placed → Placed → Ordering
+placed_cmp order a b = ordering_then (order a b) (nat_cmp a.place b.place)

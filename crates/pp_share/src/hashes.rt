@@ -14,12 +14,12 @@ use pp_steal::{Piecewise, Resources, run_piecewise};
 use std::alloc::Global;
 use std::thread::Threads;
 
-/// What one walk over samples tells of them: what they are told apart by, whether all are kept, and whether their values
-/// can be added up.
+/// What one walk over samples tells of them: what they are told apart by, whether all are kept, and whether their
+/// values can be added up.
 #[derive(Debug, Drop)]
 pub struct Hashes {
-    /// For each sample, in order, the hash of its locations and labels. Equal samples have the same hash; others
-    /// may have it too.
+    /// For each sample, in order, the hash of its locations and labels. Equal samples have the same hash; others may
+    /// have it too.
     pub list: Vec<u64>,
     /// Whether each sample has a value that isn't 0.
     pub have_values: bool,

@@ -8,8 +8,8 @@ use crate::hashes::Hashes;
 use crate::renumbering::Renumbering;
 use pp_model::Sample;
 
-/// The known hashes of the samples, if they are also those of the samples with their new ids: if no location and no text
-/// gets another id.
+/// The known hashes of the samples, if they are also those of the samples with their new ids: if no location and no
+/// text gets another id.
 pub fn kept_hashes(known: Option<Hashes>, samples: &[Sample], by: &Renumbering) -> Option<Hashes>
     requires { IfSome known (AreOwnHashes samples.now) }
     ensures { IfSome result (AreHashes (new_ids by.now) samples.now) }

@@ -51,6 +51,10 @@ impl<R: Threads + Sync> Locator for Resources<'_, R> {
         first: usize,
         locations: &Met,
     ) {
+        // No thread is started where all samples have their places.
+        if samples.len() <= first {
+            return;
+        }
         let locate = |index: usize, sample: &mut Sample|
             ensures { sample.exit.now
                 ≡ placed_from first (new_ids by.entry.now) locations.entry.now index sample.entry.now }

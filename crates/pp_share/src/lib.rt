@@ -2,14 +2,14 @@
 //!
 //! `share` and `share_on` go this way, and `sharing` is the file to begin with:
 //!
-//! 1. Each table is left with one entry of a kind (`texts`, `functions`, `places`, over `first_sight`). What the old ids
-//!    become is a `Renumbering` (`ids`, `renumbering`). The samples keep their ids until they are written.
-//! 2. Each sample is hashed by the ids that it gets (`hashing`, `hashes`), unless its hash is known from a check (`hashed`,
-//!    `kept`).
-//! 3. Samples of equal hash are sorted (`stack_order`), so that equal ones stand side by side (`repeats`). The values of
-//!    each are added to the first of its kind (`samples`).
-//! 4. What the samples name is written in the order in which a walk over them meets it (`write`, `walk`, `met`, `placing`,
-//!    `lanes`, `gather`).
+//! 1. Each table is left with one entry of a kind (`texts`, `functions`, `places`, over `first_sight`). What the old
+//!    ids become is a `Renumbering` (`ids`, `renumbering`). The samples keep their ids until they are written.
+//! 2. Each sample is hashed by the ids that it gets (`hashing`, `hashes`), unless its hash is known from a check
+//!    (`hashed`, `kept`).
+//! 3. Samples are sorted by hash, and those of equal hash are compared (`repeats`, `stack_order`). The values of each
+//!    are added to the first of its kind (`samples`).
+//! 4. What the samples name is written in the order in which a walk over them meets it (`write`, `walk`, `met`,
+//!    `placing`, `lanes`, `gather`).
 #![tactic(auto)]
 
 mod behind;

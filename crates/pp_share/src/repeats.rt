@@ -1,11 +1,12 @@
 //! The samples that are equal to earlier ones once they have their new ids.
+ghost use Rattle.std.specs.Bool.{OnTrue};
 ghost use Rattle.std.specs.Ordering.{is_eq};
-ghost use Rattle.std.specs.Prelude.{◌≡◌, ◌<◌, ◌≤◌, ◌-◌, ◌++◌, [], ◌∷◌, length, map, if◌then◌else◌, nat_lt, IfOk, OnOk};
+ghost use Rattle.std.specs.Prelude.{◌≡◌, ◌<◌, ◌≤◌, ◌-◌, ◌++◌, [], ◌∷◌, length, map, if◌then◌else◌, nat_lt, All, IfOk, OnOk};
 ghost use Rattle.std.specs.List.Sorted.{IsSorted, IsPermutation};
 ghost use Rattle.pp_share.specs.Hashes.{hash_by};
 ghost use Rattle.pp_share.specs.Renumbered.{new_ids};
 ghost use Rattle.pp_share.specs.StackOrder.{kind_cmp, placed_cmp};
-ghost use Rattle.pp_share.specs.Repeats.{class_of, ArePlaced, BeginsKind, FindsBelow, FindsOfClass, FindsRepeats};
+ghost use Rattle.pp_share.specs.Repeats.{class_of, AreEqual, ArePlaced, BeginsKind, FindsBelow, FindsOfClass, FindsRepeats, IsPair};
 
 use crate::renumbering::Renumbering;
 use crate::stack_order::stack_order;
@@ -44,8 +45,7 @@ fn class_of(hash: u64) -> u32
     ((hash >> 61) % 8) as u32
 }
 
-/// The samples that are equal to earlier ones, where these are the hashes of all. The samples of equal hash are sorted by
-/// their locations and labels, so that equal ones stand side by side.
+/// The samples that are equal to earlier ones, where these are the hashes of all.
 pub fn find_repeats(
     alloc: Global,
     by: &Renumbering,
@@ -63,8 +63,8 @@ pub fn find_repeats(
     Ok(all)
 }
 
-/// The samples that `find_repeats` gives, found by `with.workers` lanes, each of which looks at one class of hashes after
-/// another.
+/// The samples that `find_repeats` gives, found by `with.workers` lanes, each of which looks at one class of hashes
+/// after another.
 pub fn find_repeats_on<R: Threads + Sync>(
     with: &Resources<'_, R>,
     by: &Renumbering,
@@ -124,7 +124,8 @@ impl Job for Classes<'_> {
     }
 }
 
-// The samples of the class that are equal to earlier ones.
+// The samples of the class that are equal to earlier ones. Those of one hash are mostly equal: each is compared with
+// the first of them. Where one differs, all are sorted by what they are.
 fn repeats_of_class(
     alloc: Global,
     by: &Renumbering,
@@ -136,8 +137,11 @@ fn repeats_of_class(
     ensures { IfOk result (λ repeats. FindsOfClass (new_ids by.now) samples.now class repeats.items) }
 {
     let mut placed = of_class(alloc, hashes, samples, class)?;
-    sort_placed(by, &mut placed);
-    repeats_in(alloc, by, &placed)
+    let repeats = sort_out(alloc, &KindBy::Hash, &mut placed)?;
+    if are_equal(by, samples, &repeats) {
+        return Ok(repeats);
+    }
+    sort_out(alloc, &KindBy::Stack(by), &mut placed)
 }
 
 // The samples of the class, in order.
@@ -166,74 +170,88 @@ fn of_class<'a>(
     Ok(placed)
 }
 
-// Sorts the samples by kind, and those of one kind by place. Samples of one hash are mostly equal. Then they are in order
-// once they are sorted by hash and place, and the second sort compares each with the one before it, and ends.
-fn sort_placed(by: &Renumbering, placed: &mut Vec<Placed>)
-    ensures sorted { IsSorted (placed_cmp (new_ids by.now)) placed.new.items }
+// By what samples are of one kind.
+#[derive(Clone, Copy)]
+enum KindBy<'a> {
+    // By their hashes. No sample is looked at.
+    Hash,
+    // By their hashes, and by what they are with their new ids.
+    Stack(&'a Renumbering),
+}
+
+// Sorts the samples. The answer are those that follow one of their kind, in the order of their places.
+fn sort_out(alloc: Global, kind: &KindBy, placed: &mut Vec<Placed>) -> Result<Vec<Repeat>, Memory>
+    ensures same { IsPermutation placed.old.items placed.new.items }
+    ensures found { IfOk result (λ repeats.
+        FindsRepeats (kind_cmp kind.now) placed.new.items (length placed.new.items) repeats.items) }
+{
+    sort_placed(kind, placed);
+    let mut repeats = repeats_in(alloc, kind, placed.as_slice())?;
+    sort_repeats(&mut repeats);
+    Ok(repeats)
+}
+
+// Sorts the samples by kind, and those of one kind by place.
+fn sort_placed(kind: &KindBy, placed: &mut Vec<Placed>)
+    ensures sorted { IsSorted (placed_cmp (kind_cmp kind.now)) placed.new.items }
     ensures same { IsPermutation placed.old.items placed.new.items }
 {
-    sort_by_hash(placed);
-    placed.sort_unstable_by(|a, b| placed_order(by, a, b));
+    placed.sort_unstable_by(|a, b| placed_order(kind, a, b));
 }
 
-// Sorts the samples by hash, and those of one hash by place. It looks at no sample.
-fn sort_by_hash(placed: &mut Vec<Placed>)
-    ensures { IsPermutation placed.old.items placed.new.items }
+fn placed_order(kind: &KindBy, a: &Placed, b: &Placed) -> Ordering
+    ensures { result ≡ placed_cmp (kind_cmp kind.now) a.now b.now }
 {
-    placed.sort_unstable_by(|a, b| a.hash.cmp(&b.hash).then(a.place.cmp(&b.place)));
-}
-
-fn placed_order(by: &Renumbering, a: &Placed, b: &Placed) -> Ordering
-    ensures { result ≡ placed_cmp (new_ids by.now) a.now b.now }
-{
-    match kind_order(by, a, b) {
+    match kind_order(kind, a, b) {
         Ordering::Equal => a.place.cmp(&b.place),
         other => other,
     }
 }
 
-// Compares the hashes, and where these are equal the samples.
-fn kind_order(by: &Renumbering, a: &Placed, b: &Placed) -> Ordering
-    ensures { result ≡ kind_cmp (new_ids by.now) a.now b.now }
+fn kind_order(kind: &KindBy, a: &Placed, b: &Placed) -> Ordering
+    ensures { result ≡ kind_cmp kind.now a.now b.now }
 {
-    match a.hash.cmp(&b.hash) {
-        Ordering::Equal => stack_order(by, a.sample, b.sample),
-        other => other,
+    match kind {
+        KindBy::Hash => a.hash.cmp(&b.hash),
+        KindBy::Stack(by) => match a.hash.cmp(&b.hash) {
+            Ordering::Equal => stack_order(by, a.sample, b.sample),
+            other => other,
+        },
     }
 }
 
 // The samples that follow one of their kind.
-fn repeats_in(alloc: Global, by: &Renumbering, placed: &[Placed]) -> Result<Vec<Repeat>, Memory>
-    requires { IsSorted (placed_cmp (new_ids by.now)) placed.now }
-    ensures { IfOk result (λ repeats. FindsRepeats (new_ids by.now) placed.now (length placed.now) repeats.items) }
+fn repeats_in(alloc: Global, kind: &KindBy, placed: &[Placed]) -> Result<Vec<Repeat>, Memory>
+    requires { IsSorted (placed_cmp (kind_cmp kind.now)) placed.now }
+    ensures { IfOk result (λ repeats. FindsRepeats (kind_cmp kind.now) placed.now (length placed.now) repeats.items) }
 {
     let mut repeats = Vec::new(alloc);
     let mut first = 0;
     for index in 0..placed.len() {
-        first = first_of(by, placed, index, first);
+        first = first_of(kind, placed, index, first);
         push_later(&mut repeats, first, placed[index].place)?;
     }
     Ok(repeats)
 }
 
 // The first place of the kind at the index, where `before` is that of the kind before it.
-fn first_of(by: &Renumbering, placed: &[Placed], index: usize, before: usize) -> usize
+fn first_of(kind: &KindBy, placed: &[Placed], index: usize, before: usize) -> usize
     requires within { index < length placed.now }
-    requires sorted { IsSorted (placed_cmp (new_ids by.now)) placed.now }
-    requires before { 0 < index → BeginsKind (new_ids by.now) placed.now (index - 1) before }
-    ensures { BeginsKind (new_ids by.now) placed.now index result }
+    requires sorted { IsSorted (placed_cmp (kind_cmp kind.now)) placed.now }
+    requires before { 0 < index → BeginsKind (kind_cmp kind.now) placed.now (index - 1) before }
+    ensures { BeginsKind (kind_cmp kind.now) placed.now index result }
 {
-    if index > 0 && is_kind(by, &placed[index - 1], &placed[index]) {
+    if index > 0 && is_kind(kind, &placed[index - 1], &placed[index]) {
         return before;
     }
     placed[index].place
 }
 
 // Whether the samples are of one kind.
-fn is_kind(by: &Renumbering, a: &Placed, b: &Placed) -> bool
-    ensures { result ≡ is_eq (kind_cmp (new_ids by.now) a.now b.now) }
+fn is_kind(kind: &KindBy, a: &Placed, b: &Placed) -> bool
+    ensures { result ≡ is_eq (kind_cmp kind.now a.now b.now) }
 {
-    kind_order(by, a, b).is_eq()
+    kind_order(kind, a, b).is_eq()
 }
 
 // Adds the sample at the later place, unless it is the first.
@@ -245,4 +263,24 @@ fn push_later(repeats: &mut Vec<Repeat>, first: usize, later: usize) -> Result<(
         repeats.push(Repeat { first, later })?;
     }
     Ok(())
+}
+
+// Puts the repeats into the order of the samples.
+fn sort_repeats(repeats: &mut Vec<Repeat>)
+    ensures { IsPermutation repeats.old.items repeats.new.items }
+{
+    repeats.sort_unstable_by(|a, b| a.later.cmp(&b.later));
+}
+
+// Whether the two samples of each repeat are equal.
+fn are_equal(by: &Renumbering, samples: &[Sample], repeats: &[Repeat]) -> bool
+    requires { All (IsPair (length samples.now)) repeats.now }
+    ensures { OnTrue result (All (AreEqual (new_ids by.now) samples.now) repeats.now) }
+{
+    for repeat in repeats {
+        if !stack_order(by, &samples[repeat.first], &samples[repeat.later]).is_eq() {
+            return false;
+        }
+    }
+    true
 }

@@ -156,8 +156,8 @@ fn sum_hashed_on<R: Threads + Sync>(
     Ok(())
 }
 
-// Adds each repeat to the first of its kind, and leaves out the samples without any value. Most profiles have each sample
-// once, and each with a value: then the samples are not gone through.
+// Adds each repeat to the first of its kind, and leaves out the samples without any value. Most profiles have each
+// sample once, and each with a value: then the samples are not gone through.
 fn sum_repeats(alloc: Global, p: &mut Profile, repeats: &[Repeat], have_values: bool)
     requires sums { CanSum (length p.old.sample_type) p.old.sample }
     requires values { have_values ≡ list_all has_values p.old.sample }

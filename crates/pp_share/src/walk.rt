@@ -8,7 +8,7 @@ use crate::met::Met;
 use pp_base::Memory;
 use pp_model::{Function, Line, Location, Mapping, ValueType};
 
-/// The table of texts, whose ids are their indices plus 1. This type and the two below say of which table a reference is.
+/// The table of texts, whose ids are their indices plus 1. This type and the two below name the table of a reference.
 #[derive(Clone, Copy, Debug)]
 pub struct Texts;
 

@@ -61,7 +61,7 @@ fn write_named(
     Ok(p)
 }
 
-// Keeps the mappings and the functions of the locations, and the texts of all, and gives the ids of the former in order.
+// Keeps the mappings and functions of the locations, and the texts of all, and gives the ids of the former in order.
 fn keep_entries(
     alloc: Global,
     hash_keys: HashKeys,

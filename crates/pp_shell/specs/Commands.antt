@@ -1,7 +1,7 @@
 -- Commands: the words of a line that is no assignment.
 use Rattle.std.specs.Prelude.{ℕ, ℤ, pos, negsuc, Bool, true, false, ◌&&◌, List, [], ◌∷◌, drop, length, codes, Option, Some, None, Result, Ok, Err, if◌then◌else◌}
 use Rattle.std.specs.Char.{is_ascii_digit}
-use Rattle.pp_model.specs.declared.config.Sort.TheVariants.{Cum}
+use Rattle.pp_model.specs.declared.presentation.Sort.TheVariants.{Cum}
 use Rattle.pp_model.specs.declared.config.Config.{Config}
 use Rattle.pp_model.specs.declared.report.Report.{Report}
 use Rattle.pp_model.specs.ReportFacts.{is_short, is_of_labels}
@@ -68,7 +68,8 @@ is_own (pos n) = false
 -- in the shell the own number of rows of top and compare is 10
 abbrev pub with_few_rows : Report → Config → Config
 with_few_rows report c =
-    if is_short report && is_own c.nodecount then assigned c (settings.Nodecount (pos 10)) else c
+    if is_short report && is_own c.presentation.nodecount
+    then assigned c (settings.Nodecount (pos 10)) else c
 
 -- the variable whose place added patterns take
 abbrev pub focus_variable : Report → TextVariable

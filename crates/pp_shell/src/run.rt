@@ -73,7 +73,7 @@ fn put_pattern(which: TextVariable, pattern: Text, config: &mut Config)
 fn put_few_rows(report: &Report, config: &mut Config)
     ensures { config.new ≡ with_few_rows report.now config.old }
 {
-    if report.is_short() && config.nodecount == -1 {
+    if report.is_short() && config.presentation.nodecount == -1 {
         Setting::Nodecount(FEW_ROWS).assign(config);
     }
 }

@@ -4,8 +4,9 @@ use Rattle.std.specs.Ordering.{eq_by_cmp, int_eq, nat_cmp}
 use Rattle.std.proofs.lemmas.Bool.{false≢true}
 use Rattle.std.proofs.lemmas.List.Elements.{All-filter, All-head, All-tail}
 use Rattle.pp_model.specs.declared.config.Config.{Config}
-use Rattle.pp_model.specs.declared.config.Grain.TheVariants.{Lines}
+use Rattle.pp_model.specs.declared.grouping.Grain.TheVariants.{Lines}
 use Rattle.pp_model.specs.declared.profile.Profile.{Profile}
+use Rattle.pp_model.specs.declared.grouping.Grouping.{Grouping}
 use Rattle.pp_model.specs.Finders.{Finders}
 use Rattle.pp_model.specs.FirstSight.{place_of}
 use Rattle.pp_model.specs.FrameTexts.{Written}
@@ -48,14 +49,14 @@ parts_of_frames : (part : KeyPart) (ss : List (Seen Written)) → map (renamed (
 parts_of_frames part [] = refl
 parts_of_frames part (s ∷ ss) = λ i. record { value = s.value; keys = parts_of_lines part s.keys i } ∷ parts_of_frames part ss i
 
-module _ (p : Profile) (config : Config) (by : config ≡ by_lines config) (column : Option ℕ) (kept : List ℕ) (names : List Key) (seen : List (Seen ℕ)) (part : KeyPart) where
+module _ (p : Profile) (config : Config) (by : config.grouping ≡ by_lines config.grouping) (column : Option ℕ) (kept : List ℕ) (names : List Key) (seen : List (Seen ℕ)) (part : KeyPart) where
   -- what is seen by lines has the parts of the report's frames
-  pub parts_seen : (f : Finders) → kept ≡ filtered_from p f config 0 p.sample → map (renamed (written_key p names)) seen ≡ seen_samples p f config column (samples_at p kept)
+  pub parts_seen : (f : Finders) → kept ≡ filtered_from p f config.filtering 0 p.sample → map (renamed (written_key p names)) seen ≡ seen_samples p f config column (samples_at p kept)
       → map (renamed (λ n. part_of part (written_key p names n))) (weighed seen) ≡ map (renamed (part_of part)) (report_frames p f config column)
   parts_seen f kept_is are =
       let keyed : map (renamed (written_key p names)) (weighed seen) ≡ map (renamed (key_texts Lines false)) (report_frames p f config column) =
       sym (weighed-renamed (written_key p names) seen) ∙ ap weighed (are ∙ kept_seen p f config column kept kept_is) ∙ sym (keyed_report p f config column)
-      ∙ ap (λ (c : Config). map (renamed (key_texts c.grain c.showcolumns)) (report_frames p f config column)) by in
+      ∙ ap (λ (by_key : Grouping). map (renamed (key_texts by_key.grain by_key.showcolumns)) (report_frames p f config column)) by in
       sym (renamed_twice (part_of part) (written_key p names) (weighed seen)) ∙ ap (map (renamed (part_of part))) keyed ∙ parts_of_frames part (report_frames p f config column)
 
 module _ (p : Profile) (compact : IsCompact p) (zero_text : (text_at p 0 ≡ []) × (0 < length p.text)) (own : Option (List Bool)) (part : KeyPart) (keys : List Key) (of_p : All (IsKeyOf p) keys)

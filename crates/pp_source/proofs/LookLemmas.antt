@@ -9,8 +9,8 @@ use Rattle.pp_desk.specs.Script.{◌>>=◌, read_file}
 use Rattle.pp_desk.specs.Went.{Went, IsOnWay}
 use Rattle.pp_desk.proofs.Looping.{arrives, moves_on}
 use Rattle.pp_desk.proofs.Going.{gives, stops_first}
-use Rattle.pp_source.specs.declared.source.Source.{Source}
-use Rattle.pp_source.specs.declared.source.Source.TheVariants.{NotFound}
+use Rattle.pp_source.specs.declared.source.FileSource.{FileSource}
+use Rattle.pp_source.specs.declared.source.FileSource.TheVariants.{NotFound}
 use Rattle.pp_source.specs.declared.source.TheConstants.{SOURCE_LIMIT}
 use Rattle.pp_source.specs.Listing.{first_present, or_next, source_found}
 
@@ -35,7 +35,7 @@ module _ (paths : List (List ℕ)) (i : ℕ) where
         subst (λ o. IsOnWay a c (first_present paths) (or_next (first_present (drop (i + 1) paths)) o)) none (look_on c path content within is went)
 
     -- there is a file
-    pub look_finds : (c : World) (path : List ℕ) (content : FileContent) (source : Source) → i < length paths → path ≡ get_or paths i path
+    pub look_finds : (c : World) (path : List ℕ) (content : FileContent) (source : FileSource) → i < length paths → path ≡ get_or paths i path
         → Went b c (read_file path SOURCE_LIMIT) (Ok content) → source_found content ≡ Some source → Went a c (first_present paths) (Ok source)
     look_finds c path content source within is went some =
         arrives a c c _ _ (Ok source)

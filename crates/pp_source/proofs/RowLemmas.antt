@@ -11,8 +11,8 @@ use Rattle.pp_model.specs.FrameTexts.{Written}
 use Rattle.pp_units.specs.Head.{Facts}
 use Rattle.pp_count.specs.Sums.{Seen}
 use Rattle.pp_source.specs.declared.lines.FoundLine.{FoundLine}
-use Rattle.pp_source.specs.declared.source.Source.{Source}
-use Rattle.pp_source.specs.declared.source.Source.TheVariants.{Whole}
+use Rattle.pp_source.specs.declared.source.FileSource.{FileSource}
+use Rattle.pp_source.specs.declared.source.FileSource.TheVariants.{Whole}
 use Rattle.pp_source.specs.declared.split.SplitSource.{SplitSource}
 use Rattle.pp_source.specs.Amounts.{routine_amounts}
 use Rattle.pp_source.specs.Ledgers.{line_texts, lines_texts}
@@ -151,7 +151,7 @@ numbers_next lines i d within =
     ∙ filter_map-append (λ (w : Written). number_above w.line) (lines_texts (take i lines)) (line_texts (get_or lines i d) ∷ [])
 
 -- the text of a routine, by its first line
-pub routine_is : (samples : List (Seen Written)) (h : Facts) (source : Source) (lines : List FoundLine) (line : FoundLine) → 0 < length lines → line ≡ get_or lines 0 line
+pub routine_is : (samples : List (Seen Written)) (h : Facts) (source : FileSource) (lines : List FoundLine) (line : FoundLine) → 0 < length lines → line ≡ get_or lines 0 line
     → (title_line (line_texts line) ++ routine_line h (routine_amounts samples (line_texts line))) ++ routine_source samples h source (line_texts line) (lines_texts lines)
     ≡ routine_text samples h source (lines_texts lines)
 routine_is samples h source [] line some is = absurd (omega (arith, some))

@@ -40,8 +40,8 @@ module _ (walk : Walk) (i : ℕ) (s : Sample) (keys : List ℕ) (old : WalkSums)
 
   -- a sample that is kept
   pub walked_more : (new : WalkSums) → IsSeen walk.scope s true keys → All (λ k. k < length walk.scope.table.now.names) keys
-      → AddsKeys walk.lines.now.numbers.items (selected walk.scope.column walk.scope.config.now.divide_by s) (i + 1) keys old.lines new.lines
-      → AddsKeys walk.routines.now.numbers.items (selected walk.scope.column walk.scope.config.now.divide_by s) (i + 1) keys old.routines new.routines
+      → AddsKeys walk.lines.now.numbers.items (selected walk.scope.column walk.scope.config.now.presentation.divide_by s) (i + 1) keys old.lines new.lines
+      → AddsKeys walk.routines.now.numbers.items (selected walk.scope.column walk.scope.config.now.presentation.divide_by s) (i + 1) keys old.routines new.routines
       → HasWalkedTo walk (i + 1) (take (i + 1) (samples_in_scope walk.scope)) new
   walked_more new seen below lines routines = subst (λ ss. HasWalkedTo walk (i + 1) ss new) one_more (record {
     seen = so_far.seen ++ by_numbers walk.scope s keys ∷ [];
@@ -51,11 +51,11 @@ module _ (walk : Walk) (i : ℕ) (s : Sample) (keys : List ℕ) (old : WalkSums)
   })
 
   abbrev value : ℤ
-  value = selected walk.scope.column walk.scope.config.now.divide_by s
+  value = selected walk.scope.column walk.scope.config.now.presentation.divide_by s
 
   fits : size_of walk.scope (samples_in_scope walk.scope) < 2 ^ 63 → absolute so_far.seen + nat_abs value < 2 ^ 63
   fits small =
-      let size : Sample → ℕ = λ x. nat_abs (selected walk.scope.column walk.scope.config.now.divide_by x) in
+      let size : Sample → ℕ = λ x. nat_abs (selected walk.scope.column walk.scope.config.now.presentation.divide_by x) in
       let all : List Sample = samples_in_scope walk.scope in
       let left : size_of walk.scope (take i all) + size s ≤ size_of walk.scope all =
       subst (λ (x : Sample). size_of walk.scope (take i all) + size x ≤ size_of walk.scope all) (sym is) (sum_by_more_le size all i s here) in

@@ -1,6 +1,6 @@
 -- What samples come to in a routine and in a line.
 use Rattle.std.specs.Prelude.{ℕ, pos, false, List, map}
-use Rattle.pp_model.specs.declared.config.Grain.TheVariants.{FileFunctions, Lines}
+use Rattle.pp_model.specs.declared.grouping.Grain.TheVariants.{FileFunctions, Lines}
 use Rattle.pp_model.specs.FrameTexts.{Written}
 use Rattle.pp_grain.specs.Keys.{kept_by, key_cmp}
 use Rattle.pp_count.specs.Sums.{Seen, renamed, flat, cum}

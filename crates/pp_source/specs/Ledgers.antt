@@ -1,10 +1,10 @@
 -- What samples come to in the lines and the routines that a report's own pattern finds. No public clause cites it.
 use Rattle.std.specs.Prelude.{◌≡◌, ℕ, ◌≤◌, nat_lt, Bool, true, false, List, map, All, Option, if◌then◌else◌}
 use Rattle.std.specs.List.{filter}
-use Rattle.pp_model.specs.declared.config.Config.{Config}
-use Rattle.pp_model.specs.declared.config.Grain.TheVariants.{Lines}
+use Rattle.pp_model.specs.declared.grouping.Grain.TheVariants.{Lines}
 use Rattle.pp_model.specs.declared.profile.Profile.{Profile}
 use Rattle.pp_model.specs.declared.profile.Sample.{Sample}
+use Rattle.pp_model.specs.declared.grouping.Grouping.{Grouping}
 use Rattle.pp_model.specs.FirstSight.{place_of}
 use Rattle.pp_model.specs.FrameTexts.{Written}
 use Rattle.pp_grain.specs.declared.key.Key.{Key}
@@ -28,9 +28,9 @@ use Rattle.pp_source.specs.Amounts.{source_line, routine_of}
 use Rattle.pp_source.specs.Found.{IsFoundOf, is_among_keys, has_own_function}
 use Rattle.pp_source.specs.Tally.{new_number, IsTallyBy}
 
--- the configuration under which the lines of frames are counted
-abbrev pub by_lines : Config → Config
-by_lines config = record config { grain = Lines; showcolumns = false }
+-- what a key is where the lines of frames are counted
+abbrev pub by_lines : Grouping → Grouping
+by_lines grouping = record grouping { grain = Lines; showcolumns = false }
 
 -- What a walk looks at belongs together.
 pub record IsSoundWalk (walk : Walk) : Type 0 where

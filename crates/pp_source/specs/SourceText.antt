@@ -8,8 +8,8 @@ use Rattle.pp_units.specs.Rows.{value_column}
 use Rattle.pp_units.specs.Shown.{Shown}
 use Rattle.pp_model.specs.FrameTexts.{Written}
 use Rattle.pp_count.specs.Sums.{Seen}
-use Rattle.pp_source.specs.declared.source.Source.{Source}
-use Rattle.pp_source.specs.declared.source.Source.TheVariants.{NoName, NotFound, TooLong, Whole}
+use Rattle.pp_source.specs.declared.source.FileSource.{FileSource}
+use Rattle.pp_source.specs.declared.source.FileSource.TheVariants.{NoName, NotFound, TooLong, Whole}
 use Rattle.pp_source.specs.declared.amounts.Amounts.{Amounts}
 use Rattle.pp_source.specs.Amounts.{routine_amounts, line_amounts}
 use Rattle.pp_source.specs.Routines.{runs, is_same_routine}
@@ -80,7 +80,7 @@ file_lines [] = []
 file_lines (b ∷ bytes) = if b == 10 then [] ∷ file_lines bytes else in_first b (file_lines bytes)
 
 -- the lines of a source; none where there are no bytes
-abbrev pub source_lines : Source → List (List ℕ)
+abbrev pub source_lines : FileSource → List (List ℕ)
 source_lines NoName = []
 source_lines NotFound = []
 source_lines TooLong = []
@@ -123,7 +123,7 @@ abbrev pub error_line : List ℕ → List ℕ → List ℕ
 error_line file reason = codes " Error: " ++ file ++ reason
 
 -- The source of the lines of a routine, or why there is none.
-abbrev pub routine_source : List (Seen Written) → Facts → Source → Written → List Written → List ℕ
+abbrev pub routine_source : List (Seen Written) → Facts → FileSource → Written → List Written → List ℕ
 routine_source samples h NoName k lines = error_line (codes "no file name") (codes "\n")
 routine_source samples h NotFound k lines = error_line k.file (codes ": no such file\n")
 routine_source samples h TooLong k lines =
@@ -132,7 +132,7 @@ routine_source samples h (Whole bytes) k lines =
     rows_text samples h k (file_lines bytes) (numbers_of lines)
 
 -- The text of a routine, of which these lines have frames.
-abbrev pub routine_text : List (Seen Written) → Facts → Source → List Written → List ℕ
+abbrev pub routine_text : List (Seen Written) → Facts → FileSource → List Written → List ℕ
 routine_text samples h source [] = []
 routine_text samples h source (k ∷ lines) =
     (title_line k ++ routine_line h (routine_amounts samples k))
@@ -144,11 +144,11 @@ file_of [] = []
 file_of (k ∷ lines) = k.file
 
 -- The text of all routines of these lines, where each file has this source.
-abbrev pub routines_text : List (Seen Written) → Facts → (List ℕ → Source) → List Written → List ℕ
+abbrev pub routines_text : List (Seen Written) → Facts → (List ℕ → FileSource) → List Written → List ℕ
 routines_text samples h source lines =
     flat_map (λ routine. routine_text samples h (source (file_of routine)) routine)
     (runs is_same_routine lines)
 
 -- The text of the report of these lines.
-abbrev pub lines_text : List (Seen Written) → Facts → (List ℕ → Source) → List Written → List ℕ
+abbrev pub lines_text : List (Seen Written) → Facts → (List ℕ → FileSource) → List Written → List ℕ
 lines_text samples h source lines = total_line h ++ routines_text samples h source lines

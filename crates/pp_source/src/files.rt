@@ -2,20 +2,20 @@
 ghost use Rattle.std.specs.Prelude.{◌≡◌, [], map, IfOk};
 ghost use Rattle.std.specs.Option.{option_map, unwrap_or};
 ghost use Rattle.pp_desk.specs.Went.{Went};
-ghost use Rattle.pp_source.specs.declared.source.Source.TheVariants as sources;
+ghost use Rattle.pp_source.specs.declared.source.FileSource.TheVariants as sources;
 ghost use Rattle.pp_source.specs.Files.{files_of_lines, source_in};
 ghost use Rattle.pp_source.specs.Ledgers.{lines_texts};
 ghost use Rattle.pp_source.specs.Listing.{read_sources};
 
 use crate::lines::FoundLine;
 use crate::looking::source_of;
-use crate::source::Source;
+use crate::source::FileSource;
 use crate::split::SplitSource;
 use indexmap::IndexSet;
 use pp_base::{List, Memory};
 use pp_desk::{Desk, Stop};
 use pp_keys::HashKeys;
-use pp_model::Config;
+use pp_model::Environment;
 use std::alloc::Global;
 
 /// The sources of files, each of which is read once.
@@ -57,16 +57,16 @@ pub fn files_of<'a>(
 /// Reads the sources of the files, one after the other.
 pub fn read_sources<D: Desk>(
     alloc: Global,
-    config: &Config,
+    environment: &Environment,
     files: &[&[u8]],
     desk: &mut D,
-) -> Result<List<Source>, Stop>
+) -> Result<List<FileSource>, Stop>
     ensures { Went (D.world desk.old) (D.world desk.new)
-        (read_sources config.now [] (map (λ f. f.now) files.now)) result }
+        (read_sources environment.now [] (map (λ f. f.now) files.now)) result }
 {
     let mut sources = List::new(alloc);
     for file in files {
-        let source = source_of(alloc, config, file, desk)?;
+        let source = source_of(alloc, environment, file, desk)?;
         sources.push(source)?;
     }
     Ok(sources)

@@ -2,7 +2,7 @@
 ghost use Rattle.std.specs.Prelude.{◌≡◌, IfOk, Some};
 ghost use Rattle.pp_model.specs.Finders.{Finders};
 ghost use Rattle.pp_count.specs.Counted.{report_frames};
-ghost use Rattle.pp_count.specs.Scope.{AreCountable, IsSoundScope, chosen_of, samples_in_scope};
+ghost use Rattle.pp_count.specs.Scope.{AreCountable, IsSoundScope, chosen_of, config_of, samples_in_scope};
 ghost use Rattle.pp_count.specs.Seeing.{HoldsFilters, filtered_from};
 ghost use Rattle.pp_count.specs.Table.{IsKeyTable};
 ghost use Rattle.pp_source.specs.declared.found.KeyPart.TheVariants.{Line, Routine};
@@ -14,7 +14,7 @@ use crate::tallies::KeyTallies;
 use crate::walk::{Walk, add_samples};
 use pp_base::Memory;
 use pp_count::{KeyTable, Scope, Survey, key_table};
-use pp_model::{Config, Grain};
+use pp_model::{Grain, Grouping};
 use std::alloc::Global;
 use std::mem;
 
@@ -32,55 +32,43 @@ pub fn ledger_of(alloc: Global, survey: &Survey<'_>) -> Result<Ledger, Memory>
     ensures found { IfOk result (λ ledger.
         AreFound survey.now.l.now.profile survey.now.v.now.own ledger.lines.names.keys) }
     ensures sums { (f : Finders) →
-        HoldsFilters survey.now.l.now survey.now.v.now survey.now.config.now f → IfOk result
+        HoldsFilters survey.now.l.now survey.now.v.now survey.now.config.now.filtering f →
+        IfOk result
         (IsLedgerOf survey.now.l.now.profile survey.now.v.now.own
         (report_frames survey.now.l.now.profile f survey.now.config.now survey.now.column)) }
 {
-    let config = by_lines(alloc, survey.config)?;
-    let ledger = ledger_under(alloc, survey, &config);
-    mem::drop(config);
-    ledger
-}
-
-// The configuration under which the lines of frames are counted.
-fn by_lines(alloc: Global, config: &Config) -> Result<Config, Memory>
-    ensures { IfOk result (λ lines. lines ≡ by_lines config.now) }
-{
-    let mut lines = config.copy(alloc)?;
-    lines.grain = Grain::Lines;
-    lines.showcolumns = false;
-    Ok(lines)
-}
-
-// The ledger by the table of this configuration, which counts by lines.
-fn ledger_under(alloc: Global, survey: &Survey<'_>, config: &Config) -> Result<Ledger, Memory>
-    requires { config.now ≡ by_lines survey.now.config.now }
-    ensures found { IfOk result (λ ledger.
-        AreFound survey.now.l.now.profile survey.now.v.now.own ledger.lines.names.keys) }
-    ensures sums { (f : Finders) →
-        HoldsFilters survey.now.l.now survey.now.v.now survey.now.config.now f → IfOk result
-        (IsLedgerOf survey.now.l.now.profile survey.now.v.now.own
-        (report_frames survey.now.l.now.profile f survey.now.config.now survey.now.column)) }
-{
-    let table = key_table(alloc, survey.hash_keys(), survey.l, config)?;
-    let ledger = ledger_in(alloc, survey, config, &table);
+    let lines = by_lines(survey.config.grouping);
+    let table = key_table(alloc, survey.hash_keys(), survey.l, lines)?;
+    let ledger = ledger_in(alloc, survey, lines, &table);
     mem::drop(table);
     ledger
 }
 
-// The ledger by this table of this configuration. The report's filters are those of both configurations.
+// What a key is where lines of frames are counted.
+fn by_lines(grouping: Grouping) -> Grouping
+    ensures { result ≡ by_lines grouping }
+{
+    Grouping {
+        grain: Grain::Lines,
+        noinlines: grouping.noinlines,
+        showcolumns: false,
+    }
+}
+
+// The ledger by this table, whose keys are lines.
 fn ledger_in<'x>(
     alloc: Global,
     survey: &'x Survey<'x>,
-    config: &'x Config,
+    lines: Grouping,
     table: &'x KeyTable,
 ) -> Result<Ledger, Memory>
-    requires lines { config.now ≡ by_lines survey.now.config.now }
-    requires table { IsKeyTable survey.now.l.now.profile config.now table.now }
+    requires lines { lines ≡ by_lines survey.now.config.now.grouping }
+    requires table { IsKeyTable survey.now.l.now.profile lines table.now }
     ensures found { IfOk result (λ ledger.
         AreFound survey.now.l.now.profile survey.now.v.now.own ledger.lines.names.keys) }
     ensures sums { (f : Finders) →
-        HoldsFilters survey.now.l.now survey.now.v.now survey.now.config.now f → IfOk result
+        HoldsFilters survey.now.l.now survey.now.v.now survey.now.config.now.filtering f →
+        IfOk result
         (IsLedgerOf survey.now.l.now.profile survey.now.v.now.own
         (report_frames survey.now.l.now.profile f survey.now.config.now survey.now.column)) }
 {
@@ -88,7 +76,8 @@ fn ledger_in<'x>(
     let scope = Scope {
         l: survey.l,
         v: survey.v,
-        config,
+        config: survey.config,
+        grouping: lines,
         filters: survey.filters(),
         column: survey.column,
         table,
@@ -103,15 +92,15 @@ fn ledger_by(alloc: Global, scope: &Scope<'_>, kept: &[u32]) -> Result<Ledger, M
     requires sound { IsSoundScope scope.now }
     requires countable { AreCountable scope.now (samples_in_scope scope.now) }
     requires chosen { chosen_of scope.now ≡ Some kept.now }
-    requires lines { scope.now.config.now ≡ by_lines scope.now.config.now }
+    requires lines { scope.now.grouping ≡ by_lines scope.now.grouping }
     ensures found { IfOk result (λ ledger.
         AreFound scope.now.l.now.profile scope.now.v.now.own ledger.lines.names.keys) }
     ensures sums { (f : Finders) →
-        HoldsFilters scope.now.l.now scope.now.v.now scope.now.config.now f →
-        kept.now ≡ filtered_from scope.now.l.now.profile f scope.now.config.now 0
+        HoldsFilters scope.now.l.now scope.now.v.now scope.now.config.now.filtering f →
+        kept.now ≡ filtered_from scope.now.l.now.profile f scope.now.config.now.filtering 0
         scope.now.l.now.profile.sample → IfOk result
         (IsLedgerOf scope.now.l.now.profile scope.now.v.now.own
-        (report_frames scope.now.l.now.profile f scope.now.config.now scope.now.column)) }
+        (report_frames scope.now.l.now.profile f (config_of scope.now) scope.now.column)) }
 {
     let _valid = scope.l.profile.get();
     let (lines, routines) = lines_and_routines(alloc, scope)?;

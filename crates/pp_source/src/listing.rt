@@ -18,7 +18,7 @@ use crate::lines::{FoundLine, found_lines};
 use crate::refusal::ListRefusal;
 use crate::routine::write_routines;
 use crate::rows::Listing;
-use crate::source::Source;
+use crate::source::FileSource;
 use crate::split::split_sources;
 use indexmap::IndexSet;
 use pp_base::{Memory, Text};
@@ -44,7 +44,7 @@ pub fn write_list<D: Desk>(
     out: &mut Text,
 ) -> Result<Result<(), ListRefusal>, Stop>
     ensures went { (f : Finders) →
-        HoldsFilters survey.now.l.now survey.now.v.now survey.now.config.now f →
+        HoldsFilters survey.now.l.now survey.now.v.now survey.now.config.now.filtering f →
         Went (D.world desk.old) (D.world desk.new)
         (added_report out.old (list_report survey.now.l.now.profile f survey.now.config.now
         survey.now.column (facts head.now)))
@@ -67,7 +67,7 @@ fn list_report<D: Desk>(
     desk: &mut D,
 ) -> Result<Option<Text>, Stop>
     ensures { (f : Finders) →
-        HoldsFilters survey.now.l.now survey.now.v.now survey.now.config.now f →
+        HoldsFilters survey.now.l.now survey.now.v.now survey.now.config.now.filtering f →
         Went (D.world desk.old) (D.world desk.new)
         (list_report survey.now.l.now.profile f survey.now.config.now survey.now.column
         (facts head.now)) result }
@@ -94,7 +94,7 @@ fn list_ledger<D: Desk>(
         listing.now.ledger.now.lines.names.keys }
     ensures { (f : Finders) →
         HoldsFilters listing.now.survey.now.l.now listing.now.survey.now.v.now
-        listing.now.survey.now.config.now f →
+        listing.now.survey.now.config.now.filtering f →
         ListsOf listing.now (report_frames listing.now.survey.now.l.now.profile f
         listing.now.survey.now.config.now listing.now.survey.now.column) →
         Went (D.world desk.old) (D.world desk.new)
@@ -120,11 +120,17 @@ fn list_lines<D: Desk>(
     requires { All (IsLineIn listing.now) lines.now }
     ensures { (samples : Seq (Seen Written)) →
         ListsOf listing.now samples →
-        Went (D.world desk.old) (D.world desk.new) (list_lines listing.now.survey.now.config.now
+        Went (D.world desk.old) (D.world desk.new)
+        (list_lines listing.now.survey.now.config.now.environment
         samples (facts listing.now.head.now) (lines_texts lines.now)) result }
 {
     let files = files_of(alloc, listing.survey.hash_keys(), lines)?;
-    match read_sources(alloc, listing.survey.config, files.as_slice(), desk) {
+    match read_sources(
+        alloc,
+        &listing.survey.config.environment,
+        files.as_slice(),
+        desk,
+    ) {
         Ok(sources) => {
             let text = text_of_files(alloc, listing, files, sources.as_slice(), lines);
             mem::drop(sources);
@@ -142,7 +148,7 @@ fn text_of_files<'a>(
     alloc: Global,
     listing: &Listing<'_>,
     files: IndexSet<&'a [u8], HashKeys>,
-    sources: &[Source],
+    sources: &[FileSource],
     lines: &[FoundLine<'a>],
 ) -> Result<Text, Memory>
     requires { All (IsLineIn listing.now) lines.now }

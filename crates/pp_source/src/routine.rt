@@ -16,7 +16,7 @@ use crate::found::{KeyPart, part_key};
 use crate::lines::FoundLine;
 use crate::rows::{Listing, write_rows};
 use crate::runs::cut_routine;
-use crate::source::Source;
+use crate::source::FileSource;
 use crate::split::SplitSource;
 use crate::tallies::amounts_at;
 use pp_base::{Memory, Text};
@@ -60,7 +60,7 @@ fn write_found(
         out.new ≡ out.old ++ routine_text samples (facts listing.now.head.now)
         (source_in sources.now (file_of (lines_texts lines.now))) (lines_texts lines.now)) }
 {
-    let missing = Source::NotFound;
+    let missing = FileSource::NotFound;
     let none = SplitSource {
         source: &missing,
         lines: Vec::new(alloc),
@@ -185,10 +185,10 @@ fn write_source(
 {
     let path = line.texts.file;
     match file.source {
-        Source::NoName => write_error(b"no file name", b"\n", out),
-        Source::NotFound => write_error(path, b": no such file\n", out),
-        Source::TooLong => write_error(path, b": longer than 134217728 bytes\n", out),
-        Source::Whole(_) => {
+        FileSource::NoName => write_error(b"no file name", b"\n", out),
+        FileSource::NotFound => write_error(path, b": no such file\n", out),
+        FileSource::TooLong => write_error(path, b": longer than 134217728 bytes\n", out),
+        FileSource::Whole(_) => {
             let numbers = numbers_of(alloc, lines)?;
             write_rows(alloc, listing, line, &file.lines, &numbers, out)
         }

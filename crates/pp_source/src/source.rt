@@ -13,7 +13,7 @@ pub fn limit_of_sources()
 
 /// What there is of a file's source.
 #[derive(Debug, Drop)]
-pub enum Source {
+pub enum FileSource {
     /// There is no file text, and so no path.
     NoName,
     /// None of the paths has a file.

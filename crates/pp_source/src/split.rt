@@ -2,7 +2,7 @@
 ghost use Rattle.std.specs.Prelude.{◌≡◌, ◌∷◌, ◌<◌, length, map, IfOk};
 ghost use Rattle.pp_source.specs.SourceText.{file_lines, source_lines};
 
-use crate::source::Source;
+use crate::source::FileSource;
 use pp_base::Memory;
 use pp_units::cut_at;
 use std::alloc::Global;
@@ -11,7 +11,7 @@ use std::alloc::Global;
 #[derive(Drop)]
 pub struct SplitSource<'a> {
     /// The source.
-    pub source: &'a Source,
+    pub source: &'a FileSource,
     /// Its lines, without their ends; none where there are no bytes.
     pub lines: Vec<&'a [u8]>,
     ghost cut: { map (λ line. line.now) lines.items ≡ source_lines source.now },
@@ -20,7 +20,7 @@ pub struct SplitSource<'a> {
 /// The sources, each cut into its lines. `Err` is want of memory.
 pub fn split_sources<'a>(
     alloc: Global,
-    sources: &'a [Source],
+    sources: &'a [FileSource],
 ) -> Result<Vec<SplitSource<'a>>, Memory>
     ensures { IfOk result (λ split. map (λ s. s.source.now) split.items ≡ sources.now) }
 {
@@ -32,7 +32,7 @@ pub fn split_sources<'a>(
     Ok(split)
 }
 
-fn split_source<'a>(alloc: Global, source: &'a Source) -> Result<SplitSource<'a>, Memory>
+fn split_source<'a>(alloc: Global, source: &'a FileSource) -> Result<SplitSource<'a>, Memory>
     ensures { IfOk result (λ split. split.source.now ≡ source.now) }
 {
     let lines = source_lines(alloc, source)?;
@@ -40,13 +40,13 @@ fn split_source<'a>(alloc: Global, source: &'a Source) -> Result<SplitSource<'a>
 }
 
 // The lines of the source.
-fn source_lines<'a>(alloc: Global, source: &'a Source) -> Result<Vec<&'a [u8]>, Memory>
+fn source_lines<'a>(alloc: Global, source: &'a FileSource) -> Result<Vec<&'a [u8]>, Memory>
     ensures { IfOk result (λ lines.
         map (λ line. line.now) lines.items ≡ source_lines source.now) }
 {
     match source {
-        Source::NoName | Source::NotFound | Source::TooLong => Ok(Vec::new(alloc)),
-        Source::Whole(bytes) => file_lines(alloc, bytes.as_slice()),
+        FileSource::NoName | FileSource::NotFound | FileSource::TooLong => Ok(Vec::new(alloc)),
+        FileSource::Whole(bytes) => file_lines(alloc, bytes.as_slice()),
     }
 }
 

@@ -91,20 +91,29 @@ fn add_seen(
     requires sound { IsSoundWalk walk.now }
     requires keys { All (λ k. k < length walk.now.scope.table.now.names) keys.now }
     requires lines_ready { IsReadyFor
-        (selected walk.now.scope.column walk.now.scope.config.now.divide_by sample.now) turn
+        (selected walk.now.scope.column walk.now.scope.config.now.presentation.divide_by sample.now)
+        turn
         sums.old.lines }
     requires routines_ready { IsReadyFor
-        (selected walk.now.scope.column walk.now.scope.config.now.divide_by sample.now) turn
+        (selected walk.now.scope.column walk.now.scope.config.now.presentation.divide_by sample.now)
+        turn
         sums.old.routines }
     ensures lines { IfOk result (λ _. AddsKeys walk.now.lines.now.numbers.items
-        (selected walk.now.scope.column walk.now.scope.config.now.divide_by sample.now) turn keys.now
+        (selected walk.now.scope.column walk.now.scope.config.now.presentation.divide_by sample.now)
+        turn keys.now
         sums.old.lines sums.new.lines) }
     ensures routines { IfOk result (λ _. AddsKeys walk.now.routines.now.numbers.items
-        (selected walk.now.scope.column walk.now.scope.config.now.divide_by sample.now) turn keys.now
+        (selected walk.now.scope.column walk.now.scope.config.now.presentation.divide_by sample.now)
+        turn keys.now
         sums.old.routines sums.new.routines) }
 {
     let scope = &walk.scope;
-    let value = selected(scope.l, sample, scope.column, scope.config.divide_by);
+    let value = selected(
+        scope.l,
+        sample,
+        scope.column,
+        scope.config.presentation.divide_by,
+    );
     add_found(walk.lines, value, keys, turn, room, &mut sums.lines)?;
     add_found(walk.routines, value, keys, turn, room, &mut sums.routines)
 }

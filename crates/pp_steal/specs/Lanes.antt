@@ -9,7 +9,7 @@ use Rattle.pp_steal.specs.declared.view.Role.TheVariants.{Owner, Marked, Guest}
 use Rattle.pp_steal.specs.declared.view.View.{View}
 use Rattle.pp_steal.specs.declared.view.OnceEach.{OnceEach}
 use Rattle.pp_steal.specs.declared.chair.Chair.{Chair}
-use Rattle.pp_steal.specs.declared.make.Table.{Table}
+use Rattle.pp_steal.specs.declared.make.DealTable.{DealTable}
 use Rattle.pp_steal.specs.Pool.{a_view, marked}
 use Rattle.pp_steal.specs.Dealing.{is_of, dealt_to, AreDistinctPieces}
 
@@ -142,30 +142,30 @@ abbrev pub make_of : List (DequeId × Global) → Deal → ℕ → Make
 make_of homes deal pieces = the_make (map (λ (h : DequeId × Global). h.0) homes) deal pieces
 
 -- the deques of a table, whose owners are ready
-abbrev pub IsReadyTable : Table → Type 0
+abbrev pub IsReadyTable : DealTable → Type 0
 IsReadyTable t = AreOwnersReady t.deal (length t.workers.items) t.pieces t.workers.items
 
 -- and are all marked as split
-abbrev pub IsMarkedTable : Table → Type 0
+abbrev pub IsMarkedTable : DealTable → Type 0
 IsMarkedTable t = AreMarked (length t.workers.items) t.workers.items
 
 -- the table over the same deques, with the same pieces
-pub record IsSameTable (before after : Table) : Type 0 where
+pub record IsSameTable (before after : DealTable) : Type 0 where
   pub deal : after.deal ≡ before.deal
   pub pieces : after.pieces ≡ before.pieces
   pub homes : homes_of after.workers.items ≡ homes_of before.workers.items
 
 -- a new chair at each deque of the table
-abbrev pub IsChairRow : Table → Vec Chair Global → Type 0
+abbrev pub IsChairRow : DealTable → Vec Chair Global → Type 0
 IsChairRow t row = IsNewRow t.deal (length t.workers.items) t.pieces (homes_of t.workers.items) row
 
 -- rows of such chairs
-abbrev pub AreRowsOf : Table → List (Vec Chair Global) → Type 0
+abbrev pub AreRowsOf : DealTable → List (Vec Chair Global) → Type 0
 AreRowsOf t rows =
     AreNewRows t.deal (length t.workers.items) t.pieces (homes_of t.workers.items) rows
 
 -- the make that comes of the table
-abbrev pub make_of_table : Table → Make
+abbrev pub make_of_table : DealTable → Make
 make_of_table t = make_of (homes_of t.workers.items) t.deal t.pieces
 
 -- the lane has this number in this make

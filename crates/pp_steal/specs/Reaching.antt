@@ -51,8 +51,8 @@ pub record CameAt (lanes own empties : ℕ) (misses : ℕ → ℕ)
   pub own_rose : Rose empties empties'
   pub round : RoseInTurn lanes own step misses misses'
 
--- A piece came. If it came of the own deque, no count rose. If it came of the lane at a step from 1 on, the count of
--- the own deque rose, and the counts of the lanes that come before that step.
+-- A piece came. If it came of the own deque, no count rose. Else it came of the lane at a step from 1 on. Then the
+-- counts of the own deque and of the lanes before that step rose.
 abbrev pub CameInTurn : ℕ → ℕ → ℕ → (ℕ → ℕ) → ℕ → (ℕ → ℕ) → Type 0
 CameInTurn lanes own empties misses empties' misses' =
     ((empties' ≡ empties) × ((lane : ℕ) → misses' lane ≡ misses lane))

@@ -45,13 +45,13 @@ abbrev pub KeepsRight : {T : Type 0} → (ℕ → T → Type 0) → List (Option
 KeepsRight right before after = (x : ℕ) → HasRight right before x → HasRight right after x
 
 -- each piece of the list has a right outcome in its slot
-abbrev pub ArePlaced : {T : Type 0} → (ℕ → T → Type 0) → List (Option T) → List ℕ → Type 0
-ArePlaced right slots list =
+abbrev pub HaveRight : {T : Type 0} → (ℕ → T → Type 0) → List (Option T) → List ℕ → Type 0
+HaveRight right slots list =
     (i : ℕ) → i < length list → HasRight right slots (slice_index_or list i 0)
 
--- each piece of these lists has
-abbrev pub AllArePlaced : {T : Type 0} → (ℕ → T → Type 0) → List (Option T) → List (List ℕ) → Type 0
-AllArePlaced right slots taken =
+-- each piece of these lists has a right outcome in its slot
+abbrev pub AllHaveRight : {T : Type 0} → (ℕ → T → Type 0) → List (Option T) → List (List ℕ) → Type 0
+AllHaveRight right slots taken =
     (k : ℕ) (i : ℕ) → k < length taken → i < length (slice_index_or taken k [])
     → HasRight right slots (slice_index_or (slice_index_or taken k []) i 0)
 

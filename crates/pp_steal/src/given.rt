@@ -10,7 +10,7 @@ ghost use Rattle.pp_steal.specs.Closing.{times_in, chair_taken, RowEndsAt, AllEn
 use crate::chair::{Chair, Owner};
 use crate::deal::Deal;
 use crate::lane::{Lane, Parts};
-use crate::room::Room;
+use crate::room::LaneRoom;
 use crate::view::{Hand, Take};
 use pp_base::List;
 
@@ -76,7 +76,7 @@ fn gather(mut lanes: Vec<Lane>) -> Whole
         room,
     } = lanes.remove(0).into_parts();
     let Some(room) = room else { unreachable!() };
-    let Room {
+    let LaneRoom {
         mut workers,
         mut rows,
         mut taken,

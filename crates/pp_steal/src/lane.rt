@@ -11,7 +11,7 @@ ghost use Rattle.pp_steal.specs.Reaching.{Gave, NoneFell, AllRose, CameInTurn};
 use crate::chair::{Chair, Owner};
 use crate::deal::Deal;
 use crate::reach::{Reach, sweep};
-use crate::room::Room;
+use crate::room::LaneRoom;
 use crate::view::Take;
 use std::marker::Model;
 
@@ -27,7 +27,7 @@ pub struct Lane {
     chairs: Vec<Chair>,
     taken: Vec<u32>,
     empties: u64,
-    room: Option<Room>,
+    room: Option<LaneRoom>,
 }
 
 impl Model for Lane {
@@ -145,7 +145,7 @@ pub(crate) struct Parts {
     pub(crate) worker: Owner,
     pub(crate) chairs: Vec<Chair>,
     pub(crate) taken: Vec<u32>,
-    pub(crate) room: Option<Room>,
+    pub(crate) room: Option<LaneRoom>,
 }
 
 impl Lane {

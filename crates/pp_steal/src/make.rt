@@ -28,7 +28,7 @@ impl Lanes {
         ensures make { IfOk result (IsNewMake deal pieces n) }
         ensures whole { IfOk result IsWholeMake }
     {
-        let mut table = Table {
+        let mut table = DealTable {
             deal,
             pieces,
             workers: deques(alloc, pieces, n)?,
@@ -55,13 +55,13 @@ fn deques(alloc: Global, pieces: u32, lanes: u32) -> Result<Vec<Owner>, Memory>
 
 // The pieces, and the deques to which they are dealt, by lane.
 #[derive(Drop)]
-struct Table {
+struct DealTable {
     deal: Deal,
     pieces: u32,
     workers: Vec<Owner>,
 }
 
-impl Table {
+impl DealTable {
     // Deals each piece to its lane's deque.
     fn deal_out(&mut self)
         requires some { 0 < length self.old.workers.items }
@@ -125,7 +125,7 @@ impl Table {
         ensures count { IfOk result (λ lanes. length lanes.items ≡ length self.workers.items) }
         ensures new { IfOk result (λ lanes. AreNewLanes (make_of_table self) lanes.items) }
     {
-        let Table {
+        let DealTable {
             deal,
             pieces,
             workers,

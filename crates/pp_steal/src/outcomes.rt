@@ -2,7 +2,7 @@
 ghost use Rattle.std.specs.Prelude.{◌≡◌, ℕ, ◌<◌, ◌≤◌, [], length, slice_index, slice_index_or, IfOk, OnOk};
 ghost use Rattle.pp_steal.specs.Dealing.{AreDistinctPieces};
 ghost use Rattle.pp_steal.specs.Closing.{AreGivenOnce};
-ghost use Rattle.pp_steal.specs.Running.{HasOutcomes, HasRight, KeepsRight, ArePlaced, AllArePlaced, AllHaveOutcomes, AreOutcomes};
+ghost use Rattle.pp_steal.specs.Running.{HasOutcomes, HasRight, KeepsRight, HaveRight, AllHaveRight, AllHaveOutcomes, AreOutcomes};
 
 use crate::job::Job;
 use crate::station::work_on;
@@ -30,7 +30,7 @@ pub(crate) fn place_all<J: Job>(
     requires outcomes { AllHaveOutcomes (J.right job.now) taken.now outcomes.items }
     requires pieces { AreGivenOnce (length slots.old.items) taken.now }
     ensures count { length slots.new.items ≡ length slots.old.items }
-    ensures placed { AllArePlaced (J.right job.now) slots.new.items taken.now }
+    ensures placed { AllHaveRight (J.right job.now) slots.new.items taken.now }
 {
     while let Some(of_lane) = outcomes.pop() {
         let k = outcomes.len();
@@ -44,7 +44,7 @@ fn place<J: Job>(job: &J, list: &[u32], mut outcomes: Vec<J::Out>, slots: &mut V
     requires pieces { AreDistinctPieces (length slots.old.items) list.now }
     ensures count { length slots.new.items ≡ length slots.old.items }
     ensures kept { KeepsRight (J.right job.now) slots.old.items slots.new.items }
-    ensures placed { ArePlaced (J.right job.now) slots.new.items list.now }
+    ensures placed { HaveRight (J.right job.now) slots.new.items list.now }
 {
     while let Some(outcome) = outcomes.pop() {
         let k = outcomes.len();
@@ -63,7 +63,7 @@ pub(crate) fn run_left<J: Job, G: Gate>(
     requires job { length slots.old.items ≤ J.pieces job.now }
     ensures count { OnOk result (length slots.new.items ≡ length slots.old.items) }
     ensures kept { OnOk result (KeepsRight (J.right job.now) slots.old.items slots.new.items) }
-    ensures placed { OnOk result (ArePlaced (J.right job.now) slots.new.items left.now) }
+    ensures placed { OnOk result (HaveRight (J.right job.now) slots.new.items left.now) }
 {
     for piece in left {
         slots[*piece as usize] = Some(work_on(job, gate, *piece)?);

@@ -8,7 +8,7 @@ use std::alloc::Global;
 
 // Empty vectors with room for what the lanes hold, and a mark for each piece.
 #[derive(Drop)]
-pub(crate) struct Room {
+pub(crate) struct LaneRoom {
     pub(crate) workers: Vec<Owner>,
     pub(crate) rows: Vec<Vec<Chair>>,
     pub(crate) taken: Vec<List<u32>>,
@@ -22,13 +22,13 @@ pub(crate) fn room_for(
     own: u32,
     lanes: usize,
     pieces: u32,
-) -> Result<Option<Room>, Memory>
+) -> Result<Option<LaneRoom>, Memory>
     ensures { IfOk result (RoomFor own lanes pieces) }
 {
     if own > 0 {
         return Ok(None);
     }
-    Ok(Some(Room {
+    Ok(Some(LaneRoom {
         workers: Vec::with_capacity(alloc, lanes)?,
         rows: Vec::with_capacity(alloc, lanes)?,
         taken: Vec::with_capacity(alloc, lanes)?,

@@ -9,7 +9,7 @@ use Rattle.std.proofs.lemmas.List.Elements.{All-from_recursion, recursion_from_A
 use Rattle.std.proofs.lemmas.Option.{none-some, same_Some}
 use Rattle.pp_base.proofs.Lists.{all_by}
 use Rattle.pp_model.specs.declared.config.Config.{Config}
-use Rattle.pp_model.specs.declared.config.Grain.{Grain}
+use Rattle.pp_model.specs.declared.grouping.Grain.{Grain}
 use Rattle.pp_model.specs.declared.profile.Profile.{Profile}
 use Rattle.pp_share.specs.Alike.{same_mapping, first_alike}
 use Rattle.pp_share.specs.Described.{MappingText, mapping_text}
@@ -71,18 +71,18 @@ module _ (p q : Profile) (ps qs : List Profile) (config : Config) (column : ℕ)
   starts : AllByRecursion (λ r. AllByRecursion (λ m. m.start < 2 ^ 64) r.mapping) (q ∷ qs)
   starts = moves (λ r. AllByRecursion (λ m. m.start < 2 ^ 64) r.mapping) can.starts
 
-  keeps : AllByRecursion (KeepsMappings config.grain (p ∷ ps)) (q ∷ qs)
-  keeps = moves (KeepsMappings config.grain (p ∷ ps)) can.mappings
+  keeps : AllByRecursion (KeepsMappings config.grouping.grain (p ∷ ps)) (q ∷ qs)
+  keeps = moves (KeepsMappings config.grouping.grain (p ∷ ps)) can.mappings
 
-  each_keeps : (r : Profile) → KeepsMappings config.grain (p ∷ ps) r → Found (p ∷ ps) r → Found (q ∷ qs) r → KeepsMappings config.grain (q ∷ qs) r
+  each_keeps : (r : Profile) → KeepsMappings config.grouping.grain (p ∷ ps) r → Found (p ∷ ps) r → Found (q ∷ qs) r → KeepsMappings config.grouping.grain (q ∷ qs) r
   each_keeps r placed first second =
       all_by
-      (λ m. (IsPlacedAs config.grain (first_alike (all_mappings (p ∷ ps)) (mapping_text r m)) (first_alike (all_mappings (r ∷ [])) (mapping_text r m)))
+      (λ m. (IsPlacedAs config.grouping.grain (first_alike (all_mappings (p ∷ ps)) (mapping_text r m)) (first_alike (all_mappings (r ∷ [])) (mapping_text r m)))
       × ((IsFound (all_mappings (p ∷ ps)) (mapping_text r m)) × (IsFound (all_mappings (q ∷ qs)) (mapping_text r m))))
-      (λ m. IsPlacedAs config.grain (first_alike (all_mappings (q ∷ qs)) (mapping_text r m)) (first_alike (all_mappings (r ∷ [])) (mapping_text r m)))
+      (λ m. IsPlacedAs config.grouping.grain (first_alike (all_mappings (q ∷ qs)) (mapping_text r m)) (first_alike (all_mappings (r ∷ [])) (mapping_text r m)))
       (λ m held.
       let t : MappingText = mapping_text r m in
-      let there : IsPlacedAs config.grain (first_alike (all_mappings (p ∷ ps)) t) held.1.1.0 = found_placed config.grain (p ∷ ps) (q ∷ qs) keeps t held.1.1.0 held.1.0 held.1.1.1 in
+      let there : IsPlacedAs config.grouping.grain (first_alike (all_mappings (p ∷ ps)) t) held.1.1.0 = found_placed config.grouping.grain (p ∷ ps) (q ∷ qs) keeps t held.1.1.0 held.1.0 held.1.1.1 in
       let becomes : first_alike (all_mappings (q ∷ qs)) t ≡ held.1.1.0 = ap (λ o. unwrap_or o t) held.1.1.1 in
       record {
         start = λ told. ap (λ (z : MappingText). z.start) becomes ∙ sym (there.start told) ∙ held.0.start told;
@@ -101,7 +101,7 @@ module _ (p q : Profile) (ps qs : List Profile) (config : Config) (column : ℕ)
     values = all_by (HasValues (length p.sample_type)) (HasValues (length q.sample_type)) (λ r own. subst (λ n. HasValues n r) (sym types.0) own) (q ∷ qs)
         (moves (HasValues (length p.sample_type)) can.values);
     starts = starts;
-    mappings = all_by (λ r. (KeepsMappings config.grain (p ∷ ps) r) × ((Found (p ∷ ps) r) × (Found (q ∷ qs) r))) (KeepsMappings config.grain (q ∷ qs))
+    mappings = all_by (λ r. (KeepsMappings config.grouping.grain (p ∷ ps) r) × ((Found (p ∷ ps) r) × (Found (q ∷ qs) r))) (KeepsMappings config.grouping.grain (q ∷ qs))
         (λ r of. each_keeps r of.0 of.1.0 of.1.1) (q ∷ qs)
         (all_both _ _ (q ∷ qs) keeps
         (all_both _ _ (q ∷ qs) (moves (Found (p ∷ ps)) (own_found p ps (starts_said (p ∷ ps) can.starts))) (own_found q qs (starts_said (q ∷ qs) starts))));

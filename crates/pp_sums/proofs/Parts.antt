@@ -10,8 +10,8 @@ use Rattle.std.proofs.lemmas.Bool.{false≢true, or_right}
 use Rattle.std.proofs.lemmas.Cmp.{eq_by_cmp_equiv}
 use Rattle.pp_base.proofs.Booleans.{either}
 use Rattle.pp_model.specs.declared.config.Config.{Config}
-use Rattle.pp_model.specs.declared.config.Grain.{Grain}
-use Rattle.pp_model.specs.declared.config.Grain.TheVariants.{Functions, FileFunctions, Files, Lines, Addresses}
+use Rattle.pp_model.specs.declared.grouping.Grain.{Grain}
+use Rattle.pp_model.specs.declared.grouping.Grain.TheVariants.{Functions, FileFunctions, Files, Lines, Addresses}
 use Rattle.pp_model.specs.declared.profile.Profile.{Profile}
 use Rattle.pp_model.specs.Finders.{Finders}
 use Rattle.pp_model.specs.FrameTexts.{Written}
@@ -37,16 +37,16 @@ module _ (p : Profile) (f : Finders) (config : Config) (column : Option ℕ) whe
   pub rows_apart : IsDistinct (eq_by_cmp key_cmp) (all_report_keys p f config column)
   rows_apart =
       let samples = report_samples p f config column in
-      subst (λ e. IsDistinct e (all_report_keys p f config column)) (order_ties config.sort samples)
-      (each_once_apart (report_order key_cmp config.sort samples) (all_keys samples))
+      subst (λ e. IsDistinct e (all_report_keys p f config column)) (order_ties config.presentation.sort samples)
+      (each_once_apart (report_order key_cmp config.presentation.sort samples) (all_keys samples))
 
   pub rows_known : (k : Written) → occurs key_cmp (report_samples p f config column) k ≡ true
       → list_any (eq_by_cmp key_cmp k) (all_report_keys p f config column) ≡ true
   rows_known k is =
       let samples = report_samples p f config column in
-      let ties : eq_by_cmp (report_order key_cmp config.sort samples) ≡ eq_by_cmp key_cmp = order_ties config.sort samples in
+      let ties : eq_by_cmp (report_order key_cmp config.presentation.sort samples) ≡ eq_by_cmp key_cmp = order_ties config.presentation.sort samples in
       (λ i. list_any (sym ties i k) (all_report_keys p f config column))
-      ∙ each_once_members (report_total samples config.sort) (all_keys samples) k
+      ∙ each_once_members (report_total samples config.presentation.sort) (all_keys samples) k
       ∙ (λ i. list_any (ties i k) (all_keys samples))
       ∙ all_keys_occur key_cmp samples k ∙ is
 
@@ -119,7 +119,7 @@ pub frames_above : (p : Profile) (f : Finders) (config : Config) (column : Optio
     → NoneNegative (seen_samples p f config column p.sample) → NoneNegative (report_frames p f config column)
 frames_above p f config column none =
     none_weighed (framed_samples p f config column p.sample)
-    (none_renamed (key_of_written config) (framed_samples p f config column p.sample) (subst NoneNegative (sym (keyed_frames p f config column p.sample)) none))
+    (none_renamed (key_of_written config.grouping) (framed_samples p f config column p.sample) (subst NoneNegative (sym (keyed_frames p f config column p.sample)) none))
 
 -- tests that pass alike
 pub alike : (a b : Bool) → (a ≡ true → b ≡ true) → (b ≡ true → a ≡ true) → a ≡ b
@@ -188,23 +188,23 @@ module _ (coarse fine : Grain) (p : Profile) (f : Finders) (config : Config) (co
   frames = report_frames p f config column
 
   abbrev by_coarse : Written → Written
-  by_coarse = key_texts coarse config.showcolumns
+  by_coarse = key_texts coarse config.grouping.showcolumns
 
   abbrev by_fine : Written → Written
-  by_fine = key_texts fine config.showcolumns
+  by_fine = key_texts fine config.grouping.showcolumns
 
   abbrev of_key : Written → Bool
-  of_key = is_part coarse config.showcolumns k
+  of_key = is_part coarse config.grouping.showcolumns k
 
   -- the key of a frame is the key where the finer one is a part of it
   part_told : (w : Written) → eq_by_cmp key_cmp k (by_coarse w) ≡ of_key (by_fine w)
-  part_told w = named_told coarse config.showcolumns k w named ∙ ap (eq_by_cmp key_cmp k) (sym (twice coarse fine config.showcolumns w finer))
+  part_told w = named_told coarse config.grouping.showcolumns k w named ∙ ap (eq_by_cmp key_cmp k) (sym (twice coarse fine config.grouping.showcolumns w finer))
 
   over_frames : (grain : Grain) (test : List Written → Bool)
-      → sum_where test (report_samples p f (at_grain grain config) column) ≡ sum_where (λ ws. test (map (key_texts grain config.showcolumns) ws)) frames
+      → sum_where test (report_samples p f (at_grain grain config) column) ≡ sum_where (λ ws. test (map (key_texts grain config.grouping.showcolumns) ws)) frames
   over_frames grain test =
       ap (sum_where test) (sym (keyed_report p f (at_grain grain config) column))
-      ∙ sum_where-renamed (key_texts grain config.showcolumns) test frames
+      ∙ sum_where-renamed (key_texts grain config.grouping.showcolumns) test frames
 
   leaf_told : (ws : List Written) → leads key_cmp k (map by_coarse ws) ≡ first_passes of_key (map by_fine ws)
   leaf_told [] = refl

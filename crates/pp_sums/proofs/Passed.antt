@@ -1,33 +1,29 @@
 -- Reports of a file from which a part was dropped.
-use Rattle.std.proofs.Common.{◌≡◌, ℕ, ◌<◌, ◌^◌, Bool, nat_abs, List, [], ◌∷◌, length, map, Some, sym, ap, subst, ◌∙◌}
+use Rattle.std.proofs.Common.{◌≡◌, ℕ, ◌<◌, ◌^◌, Bool, nat_abs, List, [], ◌∷◌, length, Some, sym, ap, subst, ◌∙◌}
 use Rattle.std.specs.List.{AllByRecursion}
 use Rattle.std.proofs.Math.IntN.{+ℤ_idr}
 use Rattle.std.proofs.lemmas.List.{length-map}
-use Rattle.std.proofs.lemmas.Simd.{map-map}
 use Rattle.pp_model.specs.declared.config.Config.{Config}
 use Rattle.pp_model.specs.declared.profile.Mapping.{Mapping}
 use Rattle.pp_model.specs.declared.profile.Profile.{Profile}
 use Rattle.pp_model.specs.Finders.{Finders}
 use Rattle.pp_model.specs.FrameTexts.{Written}
-use Rattle.pp_model.specs.Lookup.{text_of}
 use Rattle.pp_share.specs.Described.{SampleText}
 use Rattle.pp_merge.specs.Merge.{contents, merged}
 use Rattle.pp_share.specs.Written.{Contents, written_type}
-use Rattle.pp_share.specs.Header.{HeaderText, TypeText, type_text, header_of}
-use Rattle.pp_share.proofs.EntryLemmas.{nonempty_same}
+use Rattle.pp_share.specs.Header.{type_text}
 use Rattle.pp_share.proofs.NumberedLemmas.{all_mapped}
 use Rattle.pp_merge.proofs.SettledLemmas.{settled_contents}
 use Rattle.pp_merge.proofs.WrittenAgain.{contents_again}
-use Rattle.pp_count.specs.Column.{column_of}
 use Rattle.pp_count.specs.Counts.{total_by, total_of}
 use Rattle.pp_count.specs.Counted.{report_samples}
 use Rattle.pp_count.specs.Sums.{sum_where}
-use Rattle.pp_count.proofs.Columns.{columns_alike}
 use Rattle.pp_aggregate.specs.declared.aggregating.Kept.{Kept}
 use Rattle.pp_aggregate.specs.Aggregated.{aggregated, aggregated_mapping}
 use Rattle.pp_aggregate.proofs.ReportLemmas.{frames_are_left, samples_are_same}
 use Rattle.pp_laws.specs.Merged.{HasValues}
 use Rattle.pp_laws.proofs.Within.{values_within}
+use Rattle.pp_laws.proofs.LoadedOrder.{same_columns}
 use Rattle.pp_sums.specs.Same.{HaveSameSums, HaveSameRows, HasNoNegative}
 use Rattle.pp_sums.specs.Coarser.{IsLoaded, LooksAtNothing, passed_on, PassedSumsStay, PassedRowsStay, PassedColumnsStay}
 use Rattle.pp_sums.proofs.Above.{merged_above}
@@ -42,7 +38,7 @@ types_of p ps = length-map (contents p ps).header.types (written_type (contents 
 
 -- The profile merged alone, where it is plain.
 module _ (q : Profile) (plain : IsPlain q) (starts : AllByRecursion (λ m. m.start < 2 ^ 64) q.mapping)
-    (f : Finders) (config : Config) (column : ℕ) (within : column < length q.sample_type) (divisor : config.divide_by ≡ 1) (none : HasNoNegative column q) where
+    (f : Finders) (config : Config) (column : ℕ) (within : column < length q.sample_type) (divisor : config.presentation.divide_by ≡ 1) (none : HasNoNegative column q) where
   abbrev alone : Profile
   alone = merged q []
 
@@ -67,8 +63,8 @@ module _ (q : Profile) (plain : IsPlain q) (starts : AllByRecursion (λ m. m.sta
       ∙ (λ i. total_by (nat_abs (asked_alone (counts_in_base f config column divisor) i)) (nat_abs (asked_alone (counts_in f config column divisor) i)))
       ∙ sym (total_said f config column divisor q plain none)
 
-module _ (keep : Kept) (p : Profile) (f : Finders) (config : Config) (column : ℕ) (loaded : IsLoaded p) (nothing : LooksAtNothing keep p f config)
-    (within : column < length p.sample_type) (divisor : config.divide_by ≡ 1) where
+module _ (keep : Kept) (p : Profile) (f : Finders) (config : Config) (column : ℕ) (loaded : IsLoaded p) (nothing : LooksAtNothing keep p f config.grouping)
+    (within : column < length p.sample_type) (divisor : config.presentation.divide_by ≡ 1) where
   abbrev kept : Profile
   kept = aggregated keep p
 
@@ -105,14 +101,6 @@ passed_sums_stay keep p f config column loaded nothing within divisor = passed_a
 
 pub passed_rows_stay : PassedRowsStay
 passed_rows_stay keep p f config column loaded nothing within divisor none = passed_rows_alike keep p f config column loaded nothing within divisor none
-
--- profiles with one header have the same columns
-same_columns : (p q : Profile) → header_of q [] ≡ header_of p [] → (text : List ℕ) → column_of q text ≡ column_of p text
-same_columns p q header =
-    columns_alike p q
-    (sym (map-map (λ (t : TypeText). t.kind) (type_text q) q.sample_type) ∙ ap (λ (h : HeaderText). map (λ t. t.kind) h.types) header
-    ∙ map-map (λ (t : TypeText). t.kind) (type_text p) p.sample_type)
-    (sym (nonempty_same (text_of q q.default_sample_type)) ∙ ap (λ (h : HeaderText). h.default_sample_type) header ∙ nonempty_same (text_of p p.default_sample_type))
 
 pub passed_columns_stay : PassedColumnsStay
 passed_columns_stay keep p text loaded =

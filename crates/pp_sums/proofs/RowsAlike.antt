@@ -1,11 +1,10 @@
 -- Reports with the same sums, of which no value is negative, show the same rows.
 use Rattle.std.proofs.Common.{◌≡◌, ℕ, Bool, ◌&&◌, List, Option, sym, ap, ◌∙◌}
 use Rattle.std.specs.List.{filter, list_any}
-use Rattle.std.specs.Ordering.{eq_by_cmp, then_cmp}
+use Rattle.std.specs.Ordering.{eq_by_cmp}
 use Rattle.std.proofs.lemmas.Map.Views.{any-filter_same}
 use Rattle.pp_model.specs.declared.config.Config.{Config}
-use Rattle.pp_model.specs.declared.config.Sort.{Sort}
-use Rattle.pp_model.specs.declared.config.Sort.TheVariants as sorts
+use Rattle.pp_model.specs.declared.presentation.Sort.{Sort}
 use Rattle.pp_model.specs.declared.profile.Profile.{Profile}
 use Rattle.pp_model.specs.Finders.{Finders}
 use Rattle.pp_model.specs.FrameTexts.{Written}
@@ -15,7 +14,7 @@ use Rattle.pp_count.specs.EdgeSums.{has_edge}
 use Rattle.pp_count.specs.Seeing.{seen_samples}
 use Rattle.pp_count.specs.Counts.{total_of}
 use Rattle.pp_count.specs.Counted.{report_samples}
-use Rattle.pp_count.specs.Ranks.{by_size, each_once, is_heavy}
+use Rattle.pp_count.specs.Ranks.{each_once, is_heavy}
 use Rattle.pp_count.proofs.Renaming.{all_keys_occur}
 use Rattle.pp_count.proofs.Ties.{tied}
 use Rattle.pp_graph.specs.Trim.{is_heavy_key, report_order, shown_keys}
@@ -23,14 +22,9 @@ use Rattle.pp_graph.proofs.Ordering.{report_total, report_same}
 use Rattle.pp_laws.specs.Figures.{NoneNegative}
 use Rattle.pp_laws.proofs.AddingUp.{order_ties}
 use Rattle.pp_laws.proofs.Listed.{each_once_same}
+use Rattle.pp_laws.proofs.Reordering.{same_order}
 use Rattle.pp_sums.specs.Same.{HaveSameSums, HaveSameRows}
 use Rattle.pp_sums.proofs.Signs.{isnt_zero, found_is_sum}
-
--- orders by the same sums are the same
-same_order : (sort : Sort) (ss ts : List (Seen Written)) → flat key_cmp ss ≡ flat key_cmp ts → cum key_cmp ss ≡ cum key_cmp ts
-    → report_order key_cmp sort ss ≡ report_order key_cmp sort ts
-same_order sorts.Flat ss ts flats cums = λ i. then_cmp (by_size (flats i)) (then_cmp (by_size (cums i)) key_cmp)
-same_order sorts.Cum ss ts flats cums = λ i. then_cmp (by_size (cums i)) (then_cmp (by_size (flats i)) key_cmp)
 
 module _ (sort : Sort) (ss ts : List (Seen Written)) (flats : (k : Written) → flat key_cmp ss k ≡ flat key_cmp ts k) (cums : (k : Written) → cum key_cmp ss k ≡ cum key_cmp ts k) where
   -- both have these keys in this order
@@ -85,7 +79,7 @@ module _ (p q : Profile) (f : Finders) (config : Config) (column : Option ℕ)
           occur = occur;
           edge_occurs = λ kept a b. finds (has_edge key_cmp kept a b);
           total = totals;
-          rows = λ limit. ap (shown_keys limit) (heavy_same config.sort (report_samples p f config column) (report_samples q f config column) flats cums occur
-              (total_of p f config column) (total_of q f config column) config.nodefraction.billionths totals);
-          all_rows = all_same config.sort (report_samples p f config column) (report_samples q f config column) flats cums occur;
+          rows = λ limit. ap (shown_keys limit) (heavy_same config.presentation.sort (report_samples p f config column) (report_samples q f config column) flats cums occur
+              (total_of p f config column) (total_of q f config column) config.presentation.nodefraction.billionths totals);
+          all_rows = all_same config.presentation.sort (report_samples p f config column) (report_samples q f config column) flats cums occur;
         }

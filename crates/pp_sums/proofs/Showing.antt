@@ -52,13 +52,13 @@ module _ (p : Profile) (f : Finders) (config : Config) (column : Option ℕ) whe
   text_among unit (s ∷ samples) =
       let rest : flat_map (trace_of p f config column unit) samples ≡ flat_map (traced_text p f unit) (traced_among samples) = text_among unit samples in
       let labels : List ℕ = flat_map (trace_label_line p) (shown_labels p f s.label) in
-      let value : ℤ = selected column config.divide_by s in
-      elim (filtered_stack p f config s) as (λ (o : Option (List Frame)).
-      option_map_or (λ stack. trace_text labels (value_text value unit) (keys_of_stack p config stack)) o [] ++ flat_map (trace_of p f config column unit) samples
+      let value : ℤ = selected column config.presentation.divide_by s in
+      elim (filtered_stack p f config.filtering s) as (λ (o : Option (List Frame)).
+      option_map_or (λ stack. trace_text labels (value_text value unit) (keys_of_stack p config.grouping stack)) o [] ++ flat_map (trace_of p f config column unit) samples
       ≡ flat_map (traced_text p f unit) (filter (λ t. has_frames t.1.keys)
       (cons_option (option_map (λ (own : Seen Written). (s, own)) (option_map (seen_with p config column s) o)) (filter_map with_own samples)))) [
         | None ↦ rest
-        | Some stack ↦ elim (keys_of_stack p config stack) as (λ (keys : List Written).
+        | Some stack ↦ elim (keys_of_stack p config.grouping stack) as (λ (keys : List Written).
             trace_text labels (value_text value unit) keys ++ flat_map (trace_of p f config column unit) samples
             ≡ flat_map (traced_text p f unit) (cond (has_frames keys) ((s, record { value = value; keys = keys }) ∷ traced_among samples) (traced_among samples))) [
               | [] ↦ rest
@@ -83,14 +83,14 @@ module _ (p : Profile) (f : Finders) (config : Config) (column : Option ℕ) whe
       ]
 
   -- the tagged samples have the values of those that are seen
-  whole_among : (samples : List Sample) → whole (map (sample_with_tags p f config column) (filtered_samples p f config samples)) ≡ whole (seen_samples p f config column samples)
+  whole_among : (samples : List Sample) → whole (map (sample_with_tags p f config.presentation column) (filtered_samples p f config.filtering samples)) ≡ whole (seen_samples p f config column samples)
   whole_among [] = refl
   whole_among (s ∷ samples) =
-      elim (filtered_stack p f config s) as (λ (o : Option (List Frame)).
-      whole (map (sample_with_tags p f config column) (cond (is_some o) (s ∷ filtered_samples p f config samples) (filtered_samples p f config samples)))
+      elim (filtered_stack p f config.filtering s) as (λ (o : Option (List Frame)).
+      whole (map (sample_with_tags p f config.presentation column) (cond (is_some o) (s ∷ filtered_samples p f config.filtering samples) (filtered_samples p f config.filtering samples)))
       ≡ whole (cons_option (option_map (seen_with p config column s) o) (seen_samples p f config column samples))) [
         | None ↦ whole_among samples
-        | Some stack ↦ ap (λ v. selected column config.divide_by s +ℤ v) (whole_among samples)
+        | Some stack ↦ ap (λ v. selected column config.presentation.divide_by s +ℤ v) (whole_among samples)
       ]
 
 pub traces_add_up : TracesAddUp

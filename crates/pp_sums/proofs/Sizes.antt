@@ -61,20 +61,20 @@ asked_of_sources asks column p ps settled wide values within own =
     ∙ ap (λ (c : Contents). total adding_ℤ (λ (item : SampleText × List ℤ). cond (asks item.0) (get_or item.1 column (pos 0)) (pos 0)) c.samples) (contents_again (contents p ps) settled)
     ∙ grouped p ps values asks column within
 
-module _ (f : Finders) (config : Config) (column : ℕ) (divisor : config.divide_by ≡ 1) where
+module _ (f : Finders) (config : Config) (column : ℕ) (divisor : config.presentation.divide_by ≡ 1) where
   -- the sample is among those that percentages are taken of, and it is one of the base's, too
   abbrev pub counts_in : SampleText → Bool
-  counts_in t = cond config.relative_percentages (says f config column divisor (λ _. true) t) true
+  counts_in t = cond config.presentation.relative_percentages (says f config column divisor (λ _. true) t) true
 
   abbrev pub counts_in_base : SampleText → Bool
   counts_in_base t = counts_in t && tell_base t.labels
 
   module _ (q : Profile) (plain : IsPlain q) (none : HasNoNegative column q) where
     abbrev all_of : Sample → ℕ
-    all_of = all_size (seen q f config (Some column)) (selected (Some column) config.divide_by) (is_base q) config.relative_percentages
+    all_of = all_size (seen q f config (Some column)) (selected (Some column) config.presentation.divide_by) (is_base q) config.presentation.relative_percentages
 
     abbrev base_of : Sample → ℕ
-    base_of = base_size (seen q f config (Some column)) (selected (Some column) config.divide_by) (is_base q) config.relative_percentages
+    base_of = base_size (seen q f config (Some column)) (selected (Some column) config.presentation.divide_by) (is_base q) config.presentation.relative_percentages
 
     -- what holds of each sample
     abbrev Sized : Sample → Type 0
@@ -83,26 +83,26 @@ module _ (f : Finders) (config : Config) (column : ℕ) (divisor : config.divide
     each_sized : AllByRecursion Sized q.sample
     each_sized = all_both (Fits q plain) (λ s. pos 0 ≤ℤ value_in s column) q.sample (each_fits q plain) none
 
-    among_is : (s : Sample) → Sized s → cond config.relative_percentages (is_some (seen q f config (Some column) s)) true ≡ counts_in (told_in q [] q s)
+    among_is : (s : Sample) → Sized s → cond config.presentation.relative_percentages (is_some (seen q f config (Some column) s)) true ≡ counts_in (told_in q [] q s)
     among_is s fits =
-        ap (λ b. cond config.relative_percentages b true)
+        ap (λ b. cond config.presentation.relative_percentages b true)
         (ap is_some (seen_said q plain f config (Some column) s fits.0) ∙ kept_told f config column divisor (saying q plain s))
 
-    value_is : (s : Sample) → Sized s → pos (nat_abs (selected (Some column) config.divide_by s)) ≡ value_in s column
+    value_is : (s : Sample) → Sized s → pos (nat_abs (selected (Some column) config.presentation.divide_by s)) ≡ value_in s column
     value_is s fits =
         ap (λ d. pos (nat_abs (int_div (value_in s column) (pos d)))) divisor
         ∙ ap (λ v. pos (nat_abs v)) (by_one (value_in s column)) ∙ abs_above (value_in s column) fits.1
 
     all_each : (s : Sample) → Sized s → pos (all_of s) ≡ cond (counts_in (told_in q [] q s)) (value_in s column) (pos 0)
     all_each s fits =
-        pos_if (cond config.relative_percentages (is_some (seen q f config (Some column) s)) true) (nat_abs (selected (Some column) config.divide_by s)) (value_in s column) (value_is s fits)
+        pos_if (cond config.presentation.relative_percentages (is_some (seen q f config (Some column) s)) true) (nat_abs (selected (Some column) config.presentation.divide_by s)) (value_in s column) (value_is s fits)
         ∙ ap (λ b. cond b (value_in s column) (pos 0)) (among_is s fits)
 
     base_each : (s : Sample) → Sized s → pos (base_of s) ≡ cond (counts_in_base (told_in q [] q s)) (value_in s column) (pos 0)
     base_each s fits =
-        pos_if (cond config.relative_percentages (is_some (seen q f config (Some column) s)) true) (cond (is_base q s) (nat_abs (selected (Some column) config.divide_by s)) 0)
+        pos_if (cond config.presentation.relative_percentages (is_some (seen q f config (Some column) s)) true) (cond (is_base q s) (nat_abs (selected (Some column) config.presentation.divide_by s)) 0)
         (cond (is_base q s) (value_in s column) (pos 0))
-        (pos_if (is_base q s) (nat_abs (selected (Some column) config.divide_by s)) (value_in s column) (value_is s fits))
+        (pos_if (is_base q s) (nat_abs (selected (Some column) config.presentation.divide_by s)) (value_in s column) (value_is s fits))
         ∙ (λ i. cond (among_is s fits i) (cond (base_told q s i) (value_in s column) (pos 0)) (pos 0))
         ∙ if_both (counts_in (told_in q [] q s)) (tell_base (told_in q [] q s).labels) (value_in s column)
 

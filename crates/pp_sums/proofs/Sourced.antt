@@ -7,7 +7,7 @@ use Rattle.std.proofs.lemmas.List.Sorted.{All-permutation}
 use Rattle.std.proofs.lemmas.List.Elements.{All-from_recursion, recursion_from_All}
 use Rattle.pp_base.proofs.Lists.{all_by}
 use Rattle.pp_model.specs.declared.config.Config.{Config}
-use Rattle.pp_model.specs.declared.config.Grain.TheVariants.{Addresses}
+use Rattle.pp_model.specs.declared.grouping.Grain.TheVariants.{Addresses}
 use Rattle.pp_model.specs.declared.profile.Mapping.{Mapping}
 use Rattle.pp_model.specs.declared.profile.Profile.{Profile}
 use Rattle.pp_model.specs.declared.profile.Sample.{Sample}
@@ -101,14 +101,14 @@ module _ (f : Finders) (config : Config) (column : ℕ) where
     }
 
   -- Each source says in the merge of all what it says alone.
-  module _ (p : Profile) (ps : List Profile) (q : Profile) (keeps : KeepsMappings config.grain (p ∷ ps) q) where
+  module _ (p : Profile) (ps : List Profile) (q : Profile) (keeps : KeepsMappings config.grouping.grain (p ∷ ps) q) where
     abbrev among : MappingText → MappingText
     among = first_alike (all_mappings (p ∷ ps))
 
     abbrev alone : MappingText → MappingText
     alone = first_alike (all_mappings (q ∷ []))
 
-    same_starts : (id : ℕ) → config.grain ≡ Addresses → start_of (option_map among (mapping_found q id)) ≡ start_of (option_map alone (mapping_found q id))
+    same_starts : (id : ℕ) → config.grouping.grain ≡ Addresses → start_of (option_map among (mapping_found q id)) ≡ start_of (option_map alone (mapping_found q id))
     same_starts id told = by (mapping_with q id) refl
       where
         by : (o : Option Mapping) → mapping_with q id ≡ o → start_of (option_map among (option_map (mapping_text q) o)) ≡ start_of (option_map alone (option_map (mapping_text q) o))
@@ -122,17 +122,17 @@ module _ (f : Finders) (config : Config) (column : ℕ) where
         by None is = refl
         by (Some m) is = (found_holds _ (λ (x : Mapping). x.id == id) q.mapping keeps m is).0.file
 
-    module _ (divisor : config.divide_by ≡ 1) where
+    module _ (divisor : config.presentation.divide_by ≡ 1) where
       says_same : (s : Sample) → says f config column divisor (λ _. true) (told_in p ps q s) ≡ says f config column divisor (λ _. true) (told_in q [] q s)
-      says_same s = ap (λ xs. tags_told f config (map (label_text (text_of q)) s.label) && passes f config (λ _. true) xs) (same_told config.grain q among alone same_starts same_files 0 s.location_id)
+      says_same s = ap (λ xs. tags_told f config (map (label_text (text_of q)) s.label) && passes f config (λ _. true) xs) (same_told config.grouping.grain q among alone same_starts same_files 0 s.location_id)
 
       all_same : asked (counts_in f config column divisor) column p ps q ≡ asked (counts_in f config column divisor) column q [] q
       all_same = total_same adding_ℤ (λ s. cond (counts_in f config column divisor (told_in p ps q s)) (value_in s column) (pos 0)) (λ s. cond (counts_in f config column divisor (told_in q [] q s)) (value_in s column) (pos 0)) q.sample
-          (all_any _ (λ s i. cond (cond config.relative_percentages (says_same s i) true) (value_in s column) (pos 0)) q.sample)
+          (all_any _ (λ s i. cond (cond config.presentation.relative_percentages (says_same s i) true) (value_in s column) (pos 0)) q.sample)
 
       base_same : asked (counts_in_base f config column divisor) column p ps q ≡ asked (counts_in_base f config column divisor) column q [] q
       base_same = total_same adding_ℤ (λ s. cond (counts_in_base f config column divisor (told_in p ps q s)) (value_in s column) (pos 0)) (λ s. cond (counts_in_base f config column divisor (told_in q [] q s)) (value_in s column) (pos 0)) q.sample
-          (all_any _ (λ s i. cond (cond config.relative_percentages (says_same s i) true && tell_base (map (label_text (text_of q)) s.label)) (value_in s column) (pos 0)) q.sample)
+          (all_any _ (λ s i. cond (cond config.presentation.relative_percentages (says_same s i) true && tell_base (map (label_text (text_of q)) s.label)) (value_in s column) (pos 0)) q.sample)
 
   -- The total of a merge is told from the sources, each alone.
   module _ (p : Profile) (ps : List Profile) (can : AddUp p ps config column) (none : AllByRecursion (HasNoNegative column) (p ∷ ps)) where
@@ -156,8 +156,8 @@ module _ (f : Finders) (config : Config) (column : ℕ) where
     total_of_sources =
         total_said f config column can.divisor all plain (merged_above p ps can.values column can.within none)
         ∙ (λ i. total_by
-        (nat_abs (sources_say (counts_in_base f config column can.divisor) (all_by (KeepsMappings config.grain (p ∷ ps)) _ (λ q keeps. base_same p ps q keeps can.divisor) (p ∷ ps) can.mappings) i))
-        (nat_abs (sources_say (counts_in f config column can.divisor) (all_by (KeepsMappings config.grain (p ∷ ps)) _ (λ q keeps. all_same p ps q keeps can.divisor) (p ∷ ps) can.mappings) i)))
+        (nat_abs (sources_say (counts_in_base f config column can.divisor) (all_by (KeepsMappings config.grouping.grain (p ∷ ps)) _ (λ q keeps. base_same p ps q keeps can.divisor) (p ∷ ps) can.mappings) i))
+        (nat_abs (sources_say (counts_in f config column can.divisor) (all_by (KeepsMappings config.grouping.grain (p ∷ ps)) _ (λ q keeps. all_same p ps q keeps can.divisor) (p ∷ ps) can.mappings) i)))
 
   module _ (p q : Profile) (ps qs : List Profile) (moved : IsPermutation (p ∷ ps) (q ∷ qs)) (first : AddUp p ps config column) (second : AddUp q qs config column) where
     same_sums : (test : List Written → Bool) → sum_where test (report_samples (merged p ps) f config (Some column)) ≡ sum_where test (report_samples (merged q qs) f config (Some column))

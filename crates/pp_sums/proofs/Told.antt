@@ -7,8 +7,6 @@ use Rattle.std.proofs.Math.IntN.{+ℤ_idr}
 use Rattle.std.proofs.lemmas.List.Elements.{recursion_from_All}
 use Rattle.pp_base.proofs.Lists.{all_by}
 use Rattle.pp_model.specs.declared.config.Config.{Config}
-use Rattle.pp_model.specs.declared.config.Grain.{Grain}
-use Rattle.pp_model.specs.declared.config.Grain.TheVariants.{Functions, FileFunctions, Files, Lines, Addresses}
 use Rattle.pp_model.specs.declared.frame.Frame.{Frame}
 use Rattle.pp_model.specs.declared.profile.Profile.{Profile}
 use Rattle.pp_model.specs.declared.profile.Sample.{Sample}
@@ -37,7 +35,7 @@ use Rattle.pp_laws.proofs.Grouped.{told_in}
 use Rattle.pp_laws.proofs.IntSums.{sum_each}
 use Rattle.pp_laws.proofs.Multiplying.{by_one}
 use Rattle.pp_laws.proofs.Sampling.{part, sum_seen}
-use Rattle.pp_laws.proofs.SeenAs.{value_told, value_same, sees, shows, passes}
+use Rattle.pp_laws.proofs.SeenAs.{key_by, passes, sees, shows, value_same, value_told}
 use Rattle.pp_laws.proofs.Shards.{says, sum_total, sum_of_sources, figure_said}
 use Rattle.pp_laws.proofs.Stages.{filtered-map}
 use Rattle.pp_laws.proofs.Tagging.{tags_told, tags_is, labels_tell, TellsText}
@@ -52,40 +50,32 @@ pub record IsPlain (q : Profile) : Type 0 where
   pub stay : (id : ℕ) → option_map (first_alike (all_mappings (q ∷ []))) (mapping_found q id) ≡ mapping_found q id
   pub small : AllByRecursion (λ l. l.address < 2 ^ 64) q.location
 
--- a key doesn't tell more of an address than its grain does
-key_by : (grain : Grain) (showcolumns : Bool) (w : Written) → key_texts grain showcolumns w ≡ key_texts grain showcolumns (located_by grain w)
-key_by Functions showcolumns w = refl
-key_by FileFunctions showcolumns w = refl
-key_by Files showcolumns w = refl
-key_by Lines showcolumns w = refl
-key_by Addresses showcolumns w = refl
-
 module _ (q : Profile) (f : Finders) (config : Config) where
-  keys_mapped : (stack : List Frame) → map (key_of_frame q config) stack ≡ map (key_texts config.grain config.showcolumns) (map (λ x. located_by config.grain (written q x)) stack)
+  keys_mapped : (stack : List Frame) → map (key_of_frame q config.grouping) stack ≡ map (key_texts config.grouping.grain config.grouping.showcolumns) (map (λ x. located_by config.grouping.grain (written q x)) stack)
   keys_mapped [] = refl
-  keys_mapped (x ∷ stack) = λ i. key_by config.grain config.showcolumns (written q x) i ∷ keys_mapped stack i
+  keys_mapped (x ∷ stack) = λ i. key_by config.grouping.grain config.grouping.showcolumns (written q x) i ∷ keys_mapped stack i
 
-  keys_same : (stack : List Frame) → keys_of_stack q config stack ≡ map (key_texts config.grain config.showcolumns) (told_counted config.noinlines (map (placed config.grain q) stack))
-  keys_same stack = keys_mapped (counted_frames config.noinlines stack) ∙ ap (map (key_texts config.grain config.showcolumns)) (counted_told config.grain q config.noinlines stack)
+  keys_same : (stack : List Frame) → keys_of_stack q config.grouping stack ≡ map (key_texts config.grouping.grain config.grouping.showcolumns) (told_counted config.grouping.noinlines (map (placed config.grouping.grain q) stack))
+  keys_same stack = keys_mapped (counted_frames config.grouping.noinlines stack) ∙ ap (map (key_texts config.grouping.grain config.grouping.showcolumns)) (counted_told config.grouping.grain q config.grouping.noinlines stack)
 
   -- A sample is seen by its tags, its value, and what its stack is told as.
   seen_by : (column : Option ℕ) (s : Sample)
       → seen q f config column s
-      ≡ cond (passes_tags q f config s)
-      (option_map (λ keys. record { value = selected column config.divide_by s; keys = keys }) (shows f config (map (placed config.grain q) (stack_of q s)))) None
+      ≡ cond (passes_tags q f config.filtering s)
+      (option_map (λ keys. record { value = selected column config.presentation.divide_by s; keys = keys }) (shows f config (map (placed config.grouping.grain q) (stack_of q s)))) None
   seen_by column s =
-      let with_keys : List Written → Seen Written = λ keys. record { value = selected column config.divide_by s; keys = keys } in
-      let told : List (ℕ × Written) → List Written = λ xs. map (key_texts config.grain config.showcolumns) (told_counted config.noinlines xs) in
-      elim (passes_tags q f config s) as (λ (b : Bool). option_map (seen_with q config column s) (cond b (frames_of_sample q f s) None)
-      ≡ cond b (option_map with_keys (shows f config (map (placed config.grain q) (stack_of q s)))) None) [
+      let with_keys : List Written → Seen Written = λ keys. record { value = selected column config.presentation.divide_by s; keys = keys } in
+      let told : List (ℕ × Written) → List Written = λ xs. map (key_texts config.grouping.grain config.grouping.showcolumns) (told_counted config.grouping.noinlines xs) in
+      elim (passes_tags q f config.filtering s) as (λ (b : Bool). option_map (seen_with q config column s) (cond b (frames_of_sample q f s) None)
+      ≡ cond b (option_map with_keys (shows f config (map (placed config.grouping.grain q) (stack_of q s)))) None) [
         | false ↦ refl
         | true ↦ elim (frames_of_sample q f s) as (λ (o : Option (List Frame)). option_map (seen_with q config column s) o
-            ≡ option_map with_keys (option_map told (option_map (map (placed config.grain q)) o))) [
+            ≡ option_map with_keys (option_map told (option_map (map (placed config.grouping.grain q)) o))) [
               | None ↦ refl
               | Some stack ↦ λ i. Some (with_keys (keys_same stack i))
             ]
             ∙ ap (λ (o : Option (List (ℕ × Written))). option_map with_keys (option_map told o))
-            (sym (filtered-map (placed config.grain q) (λ (x : ℕ × Written). x.1) f (stack_of q s)))
+            (sym (filtered-map (placed config.grouping.grain q) (λ (x : ℕ × Written). x.1) f (stack_of q s)))
       ]
 
 module _ (q : Profile) (plain : IsPlain q) where
@@ -112,21 +102,21 @@ module _ (q : Profile) (plain : IsPlain q) where
   seen_said f config column s fits =
       seen_by q f config column s
       ∙ (λ i. cond (tags_is q s fits.1 f config i)
-      (option_map (λ keys. record { value = value_same column config.divide_by s i; keys = keys })
-      (shows f config (frames_told q (first_alike (all_mappings (q ∷ []))) plain.stay none plain.compact.locations plain.small config.grain 0 s.location_id fits.0 i)))
+      (option_map (λ keys. record { value = value_same column config.presentation.divide_by s i; keys = keys })
+      (shows f config (frames_told q (first_alike (all_mappings (q ∷ []))) plain.stay none plain.compact.locations plain.small config.grouping.grain 0 s.location_id fits.0 i)))
       None)
 
-module _ (f : Finders) (config : Config) (column : ℕ) (divisor : config.divide_by ≡ 1) where
+module _ (f : Finders) (config : Config) (column : ℕ) (divisor : config.presentation.divide_by ≡ 1) where
   -- what a sample adds to a sum, by what it says
   part_told : (test : List Written → Bool) (item : SampleText × List ℤ)
       → option_map_or (part test) (sees f config (Some column) item) (pos 0) ≡ cond (says f config column divisor test item.0) (get_or item.1 column (pos 0)) (pos 0)
   part_told test item =
       let value : ℤ = get_or item.1 column (pos 0) in
-      let with_keys : List Written → Seen Written = λ keys. record { value = value_told (Some column) config.divide_by item.1; keys = keys } in
-      elim (tags_told f config item.0.labels) as (λ (b : Bool). option_map_or (part test) (cond b (option_map with_keys (shows f config (told_from config.grain 0 item.0.locations))) None) (pos 0)
-      ≡ cond (b && passes f config test (told_from config.grain 0 item.0.locations)) value (pos 0)) [
+      let with_keys : List Written → Seen Written = λ keys. record { value = value_told (Some column) config.presentation.divide_by item.1; keys = keys } in
+      elim (tags_told f config item.0.labels) as (λ (b : Bool). option_map_or (part test) (cond b (option_map with_keys (shows f config (told_from config.grouping.grain 0 item.0.locations))) None) (pos 0)
+      ≡ cond (b && passes f config test (told_from config.grouping.grain 0 item.0.locations)) value (pos 0)) [
         | false ↦ refl
-        | true ↦ elim (shows f config (told_from config.grain 0 item.0.locations)) as (λ (o : Option (List Written)). option_map_or (part test) (option_map with_keys o) (pos 0)
+        | true ↦ elim (shows f config (told_from config.grouping.grain 0 item.0.locations)) as (λ (o : Option (List Written)). option_map_or (part test) (option_map with_keys o) (pos 0)
             ≡ cond (option_map_or test o false) value (pos 0)) [
               | None ↦ refl
               | Some keys ↦ λ i. cond (test keys) ((ap (λ d. int_div value (pos d)) divisor ∙ by_one value) i) (pos 0)
@@ -136,11 +126,11 @@ module _ (f : Finders) (config : Config) (column : ℕ) (divisor : config.divide
   -- a sample is kept where it says so
   pub kept_told : (item : SampleText × List ℤ) → is_some (sees f config (Some column) item) ≡ says f config column divisor (λ _. true) item.0
   kept_told item =
-      let with_keys : List Written → Seen Written = λ keys. record { value = value_told (Some column) config.divide_by item.1; keys = keys } in
-      elim (tags_told f config item.0.labels) as (λ (b : Bool). is_some (cond b (option_map with_keys (shows f config (told_from config.grain 0 item.0.locations))) None)
-      ≡ (b && passes f config (λ _. true) (told_from config.grain 0 item.0.locations))) [
+      let with_keys : List Written → Seen Written = λ keys. record { value = value_told (Some column) config.presentation.divide_by item.1; keys = keys } in
+      elim (tags_told f config item.0.labels) as (λ (b : Bool). is_some (cond b (option_map with_keys (shows f config (told_from config.grouping.grain 0 item.0.locations))) None)
+      ≡ (b && passes f config (λ _. true) (told_from config.grouping.grain 0 item.0.locations))) [
         | false ↦ refl
-        | true ↦ elim (shows f config (told_from config.grain 0 item.0.locations)) as (λ (o : Option (List Written)). is_some (option_map with_keys o) ≡ option_map_or (λ _. true) o false) [
+        | true ↦ elim (shows f config (told_from config.grouping.grain 0 item.0.locations)) as (λ (o : Option (List Written)). is_some (option_map with_keys o) ≡ option_map_or (λ _. true) o false) [
           | None ↦ refl
           | Some keys ↦ refl
         ]

@@ -3,6 +3,7 @@ use Rattle.std.specs.Prelude.{◌≡◌, ℕ, ◌<◌, ◌^◌, true, List, [], 
 use Rattle.std.specs.List.{AllByRecursion}
 use Rattle.pp_model.specs.declared.config.Config.{Config}
 use Rattle.pp_model.specs.declared.profile.Profile.{Profile}
+use Rattle.pp_model.specs.declared.grouping.Grouping.{Grouping}
 use Rattle.pp_model.specs.Finders.{Finders}
 use Rattle.pp_merge.specs.Merge.{merged}
 use Rattle.pp_count.specs.Column.{column_of}
@@ -27,22 +28,25 @@ abbrev pub passed_on : Kept → Profile → Profile
 passed_on keep p = merged (aggregated keep p) []
 
 -- The report looks at nothing that is dropped: not by its keys, not by its patterns, and not at an inlined frame.
-pub record LooksAtNothing (keep : Kept) (p : Profile) (f : Finders) (config : Config) : Type 0 where
-  pub frames : FramesStay keep p f config
-  pub keys : keeps_keys keep config.grain config.showcolumns ≡ true
+pub record LooksAtNothing (keep : Kept) (p : Profile) (f : Finders) (grouping : Grouping)
+    : Type 0 where
+  pub frames : FramesStay keep p f grouping
+  pub keys : keeps_keys keep grouping.grain grouping.showcolumns ≡ true
 
 -- A reader's report has the same flat, cum and edges, where values are divided by 1.
 abbrev pub PassedSumsStay : Type 0
 PassedSumsStay =
     (keep : Kept) (p : Profile) (f : Finders) (config : Config) (column : ℕ)
-    → IsLoaded p → LooksAtNothing keep p f config → column < length p.sample_type → config.divide_by ≡ 1
+    → IsLoaded p → LooksAtNothing keep p f config.grouping → column < length p.sample_type
+    → config.presentation.divide_by ≡ 1
     → HaveSameSums (passed_on keep p) p f config (Some column)
 
 -- Where no value of the column is negative, it has the same keys, total and rows, too.
 abbrev pub PassedRowsStay : Type 0
 PassedRowsStay =
     (keep : Kept) (p : Profile) (f : Finders) (config : Config) (column : ℕ)
-    → IsLoaded p → LooksAtNothing keep p f config → column < length p.sample_type → config.divide_by ≡ 1
+    → IsLoaded p → LooksAtNothing keep p f config.grouping → column < length p.sample_type
+    → config.presentation.divide_by ≡ 1
     → HasNoNegative column p → HaveSameRows (passed_on keep p) p f config (Some column)
 
 -- A text asks for the same column of both.

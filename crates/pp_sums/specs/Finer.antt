@@ -3,8 +3,8 @@ use Rattle.std.specs.Prelude.{◌≡◌, ℕ, ◌≤ℤ◌, Bool, true, false, m
 use Rattle.std.specs.List.{filter}
 use Rattle.std.specs.Ordering.{eq_by_cmp}
 use Rattle.pp_model.specs.declared.config.Config.{Config}
-use Rattle.pp_model.specs.declared.config.Grain.{Grain}
-use Rattle.pp_model.specs.declared.config.Grain.TheVariants.{Functions, FileFunctions, Files, Lines, Addresses}
+use Rattle.pp_model.specs.declared.grouping.Grain.{Grain}
+use Rattle.pp_model.specs.declared.grouping.Grain.TheVariants.{Functions, FileFunctions, Files, Lines, Addresses}
 use Rattle.pp_model.specs.declared.profile.Profile.{Profile}
 use Rattle.pp_model.specs.Finders.{Finders}
 use Rattle.pp_model.specs.FrameTexts.{Written}
@@ -18,7 +18,7 @@ use Rattle.pp_laws.specs.Figures.{NoneNegative}
 
 -- the variables with this grain
 abbrev pub at_grain : Grain → Config → Config
-at_grain grain config = record config { grain = grain }
+at_grain grain config = record config { grouping = record config.grouping { grain = grain } }
 
 -- Keys of the second grain tell all that those of the first do.
 abbrev pub is_finer : Grain → Grain → Bool
@@ -44,9 +44,10 @@ is_part grain showcolumns k part = eq_by_cmp key_cmp k (kept_by grain showcolumn
 pub record IsSumOfParts (coarse fine : Grain) (p : Profile) (f : Finders) (config : Config) (column : Option ℕ) (k : Written) : Type 0 where
   pub flat : flat key_cmp (report_samples p f (at_grain coarse config) column) k
       ≡ int_sum (map (flat key_cmp (report_samples p f (at_grain fine config) column))
-      (filter (is_part coarse config.showcolumns k) (all_report_keys p f (at_grain fine config) column)))
+      (filter (is_part coarse config.grouping.showcolumns k)
+      (all_report_keys p f (at_grain fine config) column)))
   pub cum : NoneNegative (seen_samples p f config column p.sample)
-      → (part : Written) → is_part coarse config.showcolumns k part ≡ true
+      → (part : Written) → is_part coarse config.grouping.showcolumns k part ≡ true
       → cum key_cmp (report_samples p f (at_grain fine config) column) part
       ≤ℤ cum key_cmp (report_samples p f (at_grain coarse config) column) k
 

@@ -7,8 +7,8 @@ ghost use Rattle.pp_sums.specs.Callers.{EdgesAccount};
 /// sum of the edges to its callees and of its flat.
 ///
 /// Premises: each key is kept, as in a graph that isn't trimmed. In no sample does the key call itself by way of
-/// another key. A sample of the stack f, g, f, main, leaf first, is in the edges from g and main, and once in the
-/// cum of f. A key that calls itself directly is no trouble. Values may have either sign.
+/// another key, as f does in the stack f, g, f, main, leaf first. That sample is in the edges from g and main, but only
+/// once in the cum of f. A key that calls itself directly is no trouble. Values may have either sign.
 pub fn edges_account_for_keys()
     ensures { EdgesAccount }
 {}

@@ -45,18 +45,18 @@ fn put_wave<R: Threads + Sync>(
     ensures numbers { OnOk result (AllByRecursion RowFits wave.now) }
 {
     let alloc = with.alloc;
-    let fields = run_piecewise(with, &Writing { alloc }, wave)?;
+    let fields = run_piecewise(with, &Encoding { alloc }, wave)?;
     out.append(fields)
 }
 
-// Writing of samples, which can be done for any part of them.
+// Encoding of samples, which can be done for any part of them.
 #[derive(Drop)]
-struct Writing {
+struct Encoding {
     // Where the fields are allocated.
     alloc: Global,
 }
 
-impl Piecewise<Sample> for Writing {
+impl Piecewise<Sample> for Encoding {
     type Out = Text;
 
     ghost use Rattle.pp_tables.specs.Pieces.{AreFields};

@@ -21,7 +21,7 @@ use Rattle.pp_top.specs.Top.{top_rows, top_summary, ranked_text, top_text}
 use Rattle.pp_graph.proofs.KeyRowLemmas.{rows_are}
 
 pub ranked_is : (l : Loaded) (v : Verdicts) (config : Config) (column : Option ℕ) (limit : ℕ) (f : Finders) (c : Counted) (t : Ranked) (h : Facts)
-    → IsCountedOf l v config column c → IsRankedOf l v config column limit c t → HoldsFilters l v config f
+    → IsCountedOf l v config column c → IsRankedOf l v config column limit c t → HoldsFilters l v config.filtering f
     → ranked_text l.profile c.sums t h ≡ top_text l.profile f config column limit h
 ranked_is l v config column limit f c t h counted ranked holds =
     let samples : List (Seen Written) = report_samples l.profile f config column in

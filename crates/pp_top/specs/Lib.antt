@@ -1,1 +1,4 @@
 pub mod Top
+pub mod Compare
+pub mod Changes
+pub mod ComparedRows

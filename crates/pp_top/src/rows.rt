@@ -15,9 +15,9 @@ use pp_model::Loaded;
 use pp_units::Head;
 use std::alloc::Global;
 
-/// What the rows are made of.
+/// What the rows of top are made of.
 #[derive(Clone, Copy)]
-pub struct Table<'a> {
+pub struct TopTable<'a> {
     /// The profile whose keys they are.
     pub l: &'a Loaded,
     /// The sums, by key number.
@@ -27,7 +27,12 @@ pub struct Table<'a> {
 }
 
 /// Appends a line for each of the names with these numbers, in their order.
-pub fn put_rows(alloc: Global, table: &Table, order: &[u64], out: &mut Text) -> Result<(), Memory>
+pub fn put_rows(
+    alloc: Global,
+    table: &TopTable,
+    order: &[u64],
+    out: &mut Text,
+) -> Result<(), Memory>
     requires { CanShow table.now.l.now.profile table.now.sums.now order.now }
     ensures { IfOk result (λ _. out.new ≡ out.old
         ++ top_rows (shown table.now.head.now.unit) table.now.head.now.total (pos 0)
@@ -44,7 +49,7 @@ pub fn put_rows(alloc: Global, table: &Table, order: &[u64], out: &mut Text) -> 
 
 // "%10s %8s %8s %10s %8s  %s": flat, flat%, sum%, cum, cum% and the name, where the flats up to it have this sum.
 fn put_row(
-    table: &Table,
+    table: &TopTable,
     number: u64,
     sum: i64,
     scratch: &mut Text,

@@ -10,7 +10,7 @@ ghost use Rattle.pp_graph.specs.Trimmed.{IsRankedOf};
 ghost use Rattle.pp_graph.specs.KeyRows.{CanShow};
 ghost use Rattle.pp_top.specs.Top.{top_summary, ranked_text, top_text};
 
-use crate::rows::{Table, put_rows};
+use crate::rows::{TopTable, put_rows};
 use pp_base::{Memory, Text};
 use pp_count::Counted;
 use pp_graph::Ranked;
@@ -31,7 +31,8 @@ pub fn write_top(
     requires { CanShow l.now.profile c.now.sums t.now.order }
     ensures ok { (v : Verdicts) (config : Config) (column : Option ℕ) (limit : ℕ) (f : Finders) →
         IsCountedOf l.now v config column c.now →
-        IsRankedOf l.now v config column limit c.now t.now → HoldsFilters l.now v config f →
+        IsRankedOf l.now v config column limit c.now t.now →
+        HoldsFilters l.now v config.filtering f →
         OnOk result (out.new
         ≡ out.old ++ top_text l.now.profile f config column limit (facts head.now)) }
     ensures err { OnErr result (out.new ≡ out.old) }
@@ -57,7 +58,7 @@ fn put_top(
     put_summary(t, head, out)?;
     out.extend(HEADING)?;
     let sums = &c.sums;
-    put_rows(alloc, &Table { l, sums, head }, t.order.as_slice(), out)
+    put_rows(alloc, &TopTable { l, sums, head }, t.order.as_slice(), out)
 }
 
 fn put_summary(t: &Ranked, head: &Head, out: &mut Text) -> Result<(), Memory>

@@ -44,7 +44,7 @@ fn put_under<R: Threads + Sync>(
     requires verdicts { HasVerdicts l.now.profile v.now }
     requires standard { config.now ≡ defaults }
 {
-    let column = column_of(l, config)?;
+    let column = column_of(l, &config.presentation)?;
     let keys = HashKeys::fixed();
     let counted = count(rt, alloc, keys, l, v, config, column, &OpenGate)?;
     let survey = Survey {

@@ -27,17 +27,7 @@ fn all_edges<R: Threads + Sync>(
 ) -> Result<List<Edge>, Memory> {
     let names = survey.counted.sums.names.len();
     let keep = List::from_vec(vec![in alloc; true; names as usize]?);
-    let edges = recount(
-        rt,
-        alloc,
-        survey.l,
-        survey.v,
-        survey.counted,
-        &keep,
-        survey.config,
-        survey.column,
-        &OpenGate,
-    );
+    let edges = recount(rt, alloc, survey, &keep, &OpenGate);
     drop(keep);
     edges
 }

@@ -16,9 +16,9 @@ pub fn put_samples<R: Threads + Sync>(
 ) -> Result<()> {
     let head = head(alloc, survey)?;
     out.extend(b"\n\n")?;
-    put_traces(rt, alloc, survey, &head, out)?;
+    write_traces(rt, alloc, survey, &head, &OpenGate, out)?;
     out.extend(b"\n")?;
-    put_tags(alloc, survey, &head, out)?;
+    write_tags(alloc, survey, &head, out)?;
     Ok(())
 }
 
@@ -32,38 +32,4 @@ fn head(alloc: Global, survey: &Survey<'_>) -> Result<Head, Memory> {
         total,
         unit: pick_unit(alloc, total, b"count")?,
     })
-}
-
-fn put_traces<R: Threads + Sync>(
-    rt: &R,
-    alloc: Global,
-    survey: &Survey<'_>,
-    head: &Head,
-    out: &mut Text,
-) -> Result<(), Memory> {
-    write_traces(
-        rt,
-        alloc,
-        survey.l,
-        survey.v,
-        survey.counted,
-        survey.config,
-        survey.column,
-        head,
-        &OpenGate,
-        out,
-    )
-}
-
-fn put_tags(alloc: Global, survey: &Survey<'_>, head: &Head, out: &mut Text) -> Result<(), Memory> {
-    write_tags(
-        alloc,
-        survey.l,
-        survey.v,
-        survey.counted,
-        survey.config,
-        survey.column,
-        head,
-        out,
-    )
 }

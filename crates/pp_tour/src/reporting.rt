@@ -14,7 +14,7 @@ pub fn put_top<R: Threads + Sync>(
     out: &mut Text,
 ) -> Result<()> {
     let mut config = Config::standard(alloc)?;
-    config.hide = Text::from_slice(alloc, b"server.serve")?;
+    config.filtering.hide = Text::from_slice(alloc, b"server.serve")?;
     let text = text_of(rt, alloc, l, &Report::Top, &config);
     drop(config);
     Ok(out.extend(text?.as_slice())?)

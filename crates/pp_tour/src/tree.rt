@@ -11,14 +11,7 @@ use std::alloc::Global;
 
 /// Appends a line for each node of the report's call tree.
 pub fn put_tree(alloc: Global, survey: &Survey<'_>, out: &mut Text) -> Result<()> {
-    let tree = CallTree::build(
-        alloc,
-        survey.l,
-        survey.v,
-        survey.counted,
-        survey.config,
-        survey.column,
-    )?;
+    let tree = CallTree::build(alloc, survey)?;
     let put = put_nodes(alloc, survey.l, &tree, out);
     drop(tree);
     put

@@ -19,6 +19,6 @@ pub use contents::{Contents, is_among};
 pub use escapes::put_escaped;
 pub use problem::Problem;
 pub use session::{Folder, Session, Unready};
-pub use transcript::{Given, Owed, ParseFault, Part, Patterns, Transcript, transcripts_of};
+pub use transcript::{FilePart, Owed, ParseFault, Patterns, Setup, Transcript, transcripts_of};
 pub use trials::{AllCalls, Fault, Object, Trial};
 pub use words::put_words;

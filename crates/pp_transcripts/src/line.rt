@@ -1,23 +1,23 @@
 //! The lines of a transcript.
 //!
-//!     # TEXT               a comment; the first of a transcript is its title
-//!     files PATH=NAME ..   at the begin PATH holds what the file NAME holds
-//!     put PATH BYTES       adds BYTES at the end of what PATH holds at the begin
-//!     put* N PATH BYTES    the same, N times over
-//!     put# N PATH BYTES    the same for each number from 1 to N: `\#` in BYTES is the number, as a varint of three bytes
-//!     locked PATH ..       paths that can't be written
-//!     real                 the session runs over the machine's files, which are removed afterwards
-//!     literal PATTERN ..   the matcher finds plain texts, and refuses these patterns
-//!     workers N ..         the session runs once with each number of workers, and owes the same
-//!     faults OBJECT N      the session makes N calls of OBJECT: it runs once with each of them failing, and once more
-//!     $ pprof WORD ..      the command; several commands owe the same
-//!     < TEXT               a line of standard input, `<* N TEXT` N such lines
-//!     > TEXT               a line of standard output, `>* N TEXT` N such lines
-//!     ! TEXT               a line of standard error
-//!     = N                  the status, 0 where there is no such line
-//!     + PATH TEXT          a line of what PATH holds at the end
-//!     += PATH=NAME ..      at the end PATH holds what the file NAME holds
-//!     - PATH ..            at the end there is no such file
+//!     # TEXT               a comment; the first of a transcript is its title.
+//!     files PATH=NAME ..   at the start PATH holds what the file NAME holds.
+//!     put PATH BYTES       adds BYTES at the end of what PATH holds at the start.
+//!     put* N PATH BYTES    the same, N times over.
+//!     put# N PATH BYTES    the same for each number from 1 to N: `\#` in BYTES is it, as a varint of three bytes.
+//!     locked PATH ..       paths that can't be written.
+//!     real                 the session runs over the machine's files, which are removed afterwards.
+//!     literal PATTERN ..   the matcher finds plain texts, and refuses these patterns.
+//!     workers N ..         the session runs once with each number of workers, and owes the same.
+//!     faults OBJECT N      the session makes N calls of OBJECT: it runs once with each of them failing, and once more.
+//!     $ pprof WORD ..      the command; several commands owe the same.
+//!     < TEXT               a line of standard input, `<* N TEXT` N such lines.
+//!     > TEXT               a line of standard output, `>* N TEXT` N such lines.
+//!     ! TEXT               a line of standard error.
+//!     = N                  the status, 0 where there is no such line.
+//!     + PATH TEXT          a line of what PATH holds at the end.
+//!     += PATH=NAME ..      at the end PATH holds what the file NAME holds.
+//!     - PATH ..            at the end there is no such file.
 
 use crate::escapes::{in_three_bytes, put_numbered, put_unescaped};
 use crate::problem::Problem;
@@ -28,7 +28,7 @@ use std::alloc::Global;
 
 /// A line, taken apart.
 #[derive(Drop)]
-pub enum Line {
+pub enum TranscriptLine {
     Comment(Text),
     /// Paths, and the names of files.
     Files(List<(Text, Text)>),
@@ -54,7 +54,7 @@ pub enum Line {
 }
 
 #[derive(Clone, Copy)]
-enum Tag {
+enum LineTag {
     Comment,
     Files,
     Put,
@@ -77,57 +77,59 @@ enum Tag {
     Gone,
 }
 
-fn tag_of(spelling: &str) -> Option<Tag> {
+fn tag_of(spelling: &str) -> Option<LineTag> {
     let tags = [
-        (">", Tag::Out),
-        ("put", Tag::Put),
-        ("#", Tag::Comment),
-        ("files", Tag::Files),
-        ("$", Tag::Command),
-        ("<", Tag::Input),
-        ("!", Tag::Err),
-        ("=", Tag::Status),
-        ("+", Tag::Holds),
-        ("+=", Tag::HoldsFiles),
-        ("-", Tag::Gone),
-        ("put*", Tag::PutOften),
-        ("put#", Tag::PutNumbered),
-        ("<*", Tag::InputOften),
-        (">*", Tag::OutOften),
-        ("locked", Tag::Locked),
-        ("real", Tag::Real),
-        ("literal", Tag::Literal),
-        ("workers", Tag::Workers),
-        ("faults", Tag::Faults),
+        (">", LineTag::Out),
+        ("put", LineTag::Put),
+        ("#", LineTag::Comment),
+        ("files", LineTag::Files),
+        ("$", LineTag::Command),
+        ("<", LineTag::Input),
+        ("!", LineTag::Err),
+        ("=", LineTag::Status),
+        ("+", LineTag::Holds),
+        ("+=", LineTag::HoldsFiles),
+        ("-", LineTag::Gone),
+        ("put*", LineTag::PutOften),
+        ("put#", LineTag::PutNumbered),
+        ("<*", LineTag::InputOften),
+        (">*", LineTag::OutOften),
+        ("locked", LineTag::Locked),
+        ("real", LineTag::Real),
+        ("literal", LineTag::Literal),
+        ("workers", LineTag::Workers),
+        ("faults", LineTag::Faults),
     ];
     let (_, tag) = tags.iter().copied().find(|(name, _)| *name == spelling)?;
     Some(tag)
 }
 
 /// Takes a line apart. A tag alone has an empty rest.
-pub fn line_of(alloc: Global, line: &str) -> Result<Line, Problem> {
+pub fn line_of(alloc: Global, line: &str) -> Result<TranscriptLine, Problem> {
     let (spelling, rest) = line.split_once(' ').unwrap_or((line, ""));
     match tag_of(spelling).ok_or(Problem::Tag)? {
-        Tag::Comment => Ok(Line::Comment(Text::from_slice(alloc, rest.as_bytes())?)),
-        Tag::Files => Ok(Line::Files(named_files(alloc, rest)?)),
-        Tag::Put => put_line(alloc, rest, 1),
-        Tag::PutOften => put_often(alloc, rest),
-        Tag::PutNumbered => put_each(alloc, rest),
-        Tag::Locked => Ok(Line::Locked(words_of(alloc, rest)?)),
-        Tag::Real => Ok(Line::Real),
-        Tag::Literal => Ok(Line::Literal(any_words_of(alloc, rest)?)),
-        Tag::Workers => Ok(Line::Workers(words_of(alloc, rest)?)),
-        Tag::Faults => faults_line(rest),
-        Tag::Command => Ok(Line::Command(command_of(alloc, rest)?)),
-        Tag::Input => Ok(Line::Input(text_line(alloc, rest)?)),
-        Tag::InputOften => Ok(Line::Input(text_lines(alloc, rest)?)),
-        Tag::Out => Ok(Line::Out(text_line(alloc, rest)?)),
-        Tag::OutOften => Ok(Line::Out(text_lines(alloc, rest)?)),
-        Tag::Err => Ok(Line::Err(text_line(alloc, rest)?)),
-        Tag::Status => Ok(Line::Status(rest.parse::<u8>().map_err(|_| Problem::Number)?)),
-        Tag::Holds => holds_line(alloc, rest),
-        Tag::HoldsFiles => Ok(Line::HoldsFiles(named_files(alloc, rest)?)),
-        Tag::Gone => Ok(Line::Gone(words_of(alloc, rest)?)),
+        LineTag::Comment => Ok(TranscriptLine::Comment(Text::from_slice(alloc, rest.as_bytes())?)),
+        LineTag::Files => Ok(TranscriptLine::Files(named_files(alloc, rest)?)),
+        LineTag::Put => put_line(alloc, rest, 1),
+        LineTag::PutOften => put_often(alloc, rest),
+        LineTag::PutNumbered => put_each(alloc, rest),
+        LineTag::Locked => Ok(TranscriptLine::Locked(words_of(alloc, rest)?)),
+        LineTag::Real => Ok(TranscriptLine::Real),
+        LineTag::Literal => Ok(TranscriptLine::Literal(any_words_of(alloc, rest)?)),
+        LineTag::Workers => Ok(TranscriptLine::Workers(words_of(alloc, rest)?)),
+        LineTag::Faults => faults_line(rest),
+        LineTag::Command => Ok(TranscriptLine::Command(command_of(alloc, rest)?)),
+        LineTag::Input => Ok(TranscriptLine::Input(text_line(alloc, rest)?)),
+        LineTag::InputOften => Ok(TranscriptLine::Input(text_lines(alloc, rest)?)),
+        LineTag::Out => Ok(TranscriptLine::Out(text_line(alloc, rest)?)),
+        LineTag::OutOften => Ok(TranscriptLine::Out(text_lines(alloc, rest)?)),
+        LineTag::Err => Ok(TranscriptLine::Err(text_line(alloc, rest)?)),
+        LineTag::Status => Ok(TranscriptLine::Status(
+            rest.parse::<u8>().map_err(|_| Problem::Number)?,
+        )),
+        LineTag::Holds => holds_line(alloc, rest),
+        LineTag::HoldsFiles => Ok(TranscriptLine::HoldsFiles(named_files(alloc, rest)?)),
+        LineTag::Gone => Ok(TranscriptLine::Gone(words_of(alloc, rest)?)),
     }
 }
 
@@ -146,10 +148,10 @@ fn command_of(alloc: Global, rest: &str) -> Result<List<Text>, Problem> {
     }
 }
 
-fn faults_line(rest: &str) -> Result<Line, Problem> {
+fn faults_line(rest: &str) -> Result<TranscriptLine, Problem> {
     let (name, count) = rest.split_once(' ').ok_or(Problem::Number)?;
     let fault = fault_named(name).ok_or(Problem::Object)?;
-    Ok(Line::Faults(fault, number_of(count)?))
+    Ok(TranscriptLine::Faults(fault, number_of(count)?))
 }
 
 fn number_of(digits: &str) -> Result<u64, Problem> {
@@ -162,31 +164,31 @@ fn counted(rest: &str) -> Result<(u64, &str), Problem> {
     Ok((number_of(digits)?, text))
 }
 
-fn put_often(alloc: Global, rest: &str) -> Result<Line, Problem> {
+fn put_often(alloc: Global, rest: &str) -> Result<TranscriptLine, Problem> {
     let (count, rest) = counted(rest)?;
     put_line(alloc, rest, count)
 }
 
-fn put_line(alloc: Global, rest: &str, count: u64) -> Result<Line, Problem> {
+fn put_line(alloc: Global, rest: &str, count: u64) -> Result<TranscriptLine, Problem> {
     let (path, spelled) = head_of(alloc, rest)?;
     let mut bytes = Text::new(alloc);
     put_unescaped(&mut bytes, spelled)?;
-    Ok(Line::Put(path, repeated(alloc, bytes, count)?))
+    Ok(TranscriptLine::Put(path, repeated(alloc, bytes, count)?))
 }
 
-fn put_each(alloc: Global, rest: &str) -> Result<Line, Problem> {
+fn put_each(alloc: Global, rest: &str) -> Result<TranscriptLine, Problem> {
     let (count, rest) = counted(rest)?;
     let (path, spelled) = head_of(alloc, rest)?;
     let mut bytes = Text::new(alloc);
     for number in 1..=count {
         put_numbered(&mut bytes, spelled, Some(in_three_bytes(number)))?;
     }
-    Ok(Line::Put(path, bytes))
+    Ok(TranscriptLine::Put(path, bytes))
 }
 
-fn holds_line(alloc: Global, rest: &str) -> Result<Line, Problem> {
+fn holds_line(alloc: Global, rest: &str) -> Result<TranscriptLine, Problem> {
     let (path, text) = head_of(alloc, rest)?;
-    Ok(Line::Holds(path, text_line(alloc, text)?))
+    Ok(TranscriptLine::Holds(path, text_line(alloc, text)?))
 }
 
 fn text_lines(alloc: Global, rest: &str) -> Result<Text, Problem> {

@@ -1,7 +1,7 @@
 //! A transcript with the contents of its files.
 
 use crate::contents::{Contents, is_among};
-use crate::transcript::{Part, Transcript};
+use crate::transcript::{FilePart, Transcript};
 use pp_base::{FileRead, Files, List, Memory, Text};
 use pp_real::RealFiles;
 use std::alloc::Global;
@@ -97,7 +97,7 @@ impl<'a> Folder<'a> {
     fn fill(&mut self, session: &mut Session) -> Result<(), Unready> {
         let transcript = session.transcript;
         let gone = transcript.owed.gone.as_slice();
-        self.put_contents(&mut session.before, transcript.given.files.as_slice())?;
+        self.put_contents(&mut session.before, transcript.setup.files.as_slice())?;
         self.put_contents(&mut session.after, transcript.owed.files.as_slice())?;
         keep_others(&session.before, gone, &mut session.after)?;
         put_paths(self.alloc, session, gone)?;
@@ -108,12 +108,12 @@ impl<'a> Folder<'a> {
     fn put_contents(
         &mut self,
         contents: &mut Contents,
-        parts: &[(Text, Part)],
+        parts: &[(Text, FilePart)],
     ) -> Result<(), Unready> {
         for (path, part) in parts {
             match part {
-                Part::Bytes(bytes) => contents.append(path, bytes.as_slice())?,
-                Part::Copy(name) => {
+                FilePart::Bytes(bytes) => contents.append(path, bytes.as_slice())?,
+                FilePart::Copy(name) => {
                     let content = self.named(name)?;
                     contents.append(path, content.as_slice())?;
                 }

@@ -1,6 +1,6 @@
 //! Transcripts: what a session is given, and what it owes.
 
-use crate::line::{Line, line_of};
+use crate::line::{TranscriptLine, line_of};
 use crate::problem::Problem;
 use crate::trials::{Fault, Object};
 use pp_base::{List, Memory, Text};
@@ -9,7 +9,7 @@ use std::mem;
 
 /// A part of a file's content.
 #[derive(Drop)]
-pub enum Part {
+pub enum FilePart {
     /// These bytes.
     Bytes(Text),
     /// What the file of the name holds, in the folder of the transcripts.
@@ -25,11 +25,11 @@ pub enum Patterns {
     Literal(List<Text>),
 }
 
-/// What a session is given.
+/// The setup of a session: what it is given.
 #[derive(Drop)]
-pub struct Given {
+pub struct Setup {
     /// The parts of each file, each with its path, in order.
-    pub files: List<(Text, Part)>,
+    pub files: List<(Text, FilePart)>,
     /// Paths that can't be written.
     pub locked: List<Text>,
     /// All of standard input.
@@ -50,7 +50,7 @@ pub struct Owed {
     /// The exit status.
     pub status: u8,
     /// The parts of each file that is there at the end, each with its path, in order.
-    pub files: List<(Text, Part)>,
+    pub files: List<(Text, FilePart)>,
     /// The paths at which no file is at the end.
     pub gone: List<Text>,
 }
@@ -69,7 +69,7 @@ pub struct Transcript {
     /// Kinds of failure, and how many calls a session makes of the object of each.
     pub faults: List<(Fault, u64)>,
     /// What each command is given.
-    pub given: Given,
+    pub setup: Setup,
     /// What each command owes.
     pub owed: Owed,
 }
@@ -82,7 +82,7 @@ impl Transcript {
             commands: List::new(alloc),
             workers: List::new(alloc),
             faults: List::new(alloc),
-            given: Given {
+            setup: Setup {
                 files: List::new(alloc),
                 locked: List::new(alloc),
                 input: Text::new(alloc),
@@ -99,36 +99,42 @@ impl Transcript {
         }
     }
 
-    fn put(&mut self, line: Line) -> Result<(), Memory> {
+    fn put(&mut self, line: TranscriptLine) -> Result<(), Memory> {
         match line {
-            Line::Comment(text) => {
+            TranscriptLine::Comment(text) => {
                 self.put_comment(text);
                 Ok(())
             }
-            Line::Files(files) => put_copies(&mut self.given.files, files),
-            Line::Put(path, bytes) => self.given.files.push((path, Part::Bytes(bytes))),
-            Line::Locked(paths) => put_all(&mut self.given.locked, paths),
-            Line::Real => {
-                self.given.is_real = true;
+            TranscriptLine::Files(files) => put_copies(&mut self.setup.files, files),
+            TranscriptLine::Put(path, bytes) => self
+                .setup
+                .files
+                .push((path, FilePart::Bytes(bytes))),
+            TranscriptLine::Locked(paths) => put_all(&mut self.setup.locked, paths),
+            TranscriptLine::Real => {
+                self.setup.is_real = true;
                 Ok(())
             }
-            Line::Literal(refused) => {
-                self.given.patterns = Patterns::Literal(refused);
+            TranscriptLine::Literal(refused) => {
+                self.setup.patterns = Patterns::Literal(refused);
                 Ok(())
             }
-            Line::Workers(numbers) => put_all(&mut self.workers, numbers),
-            Line::Faults(fault, calls) => self.faults.push((fault, calls)),
-            Line::Command(words) => self.commands.push(words),
-            Line::Input(text) => self.given.input.append(text),
-            Line::Out(text) => self.owed.out.append(text),
-            Line::Err(text) => self.owed.err.append(text),
-            Line::Status(status) => {
+            TranscriptLine::Workers(numbers) => put_all(&mut self.workers, numbers),
+            TranscriptLine::Faults(fault, calls) => self.faults.push((fault, calls)),
+            TranscriptLine::Command(words) => self.commands.push(words),
+            TranscriptLine::Input(text) => self.setup.input.append(text),
+            TranscriptLine::Out(text) => self.owed.out.append(text),
+            TranscriptLine::Err(text) => self.owed.err.append(text),
+            TranscriptLine::Status(status) => {
                 self.owed.status = status;
                 Ok(())
             }
-            Line::Holds(path, text) => self.owed.files.push((path, Part::Bytes(text))),
-            Line::HoldsFiles(files) => put_copies(&mut self.owed.files, files),
-            Line::Gone(paths) => put_all(&mut self.owed.gone, paths),
+            TranscriptLine::Holds(path, text) => self
+                .owed
+                .files
+                .push((path, FilePart::Bytes(text))),
+            TranscriptLine::HoldsFiles(files) => put_copies(&mut self.owed.files, files),
+            TranscriptLine::Gone(paths) => put_all(&mut self.owed.gone, paths),
         }
     }
 
@@ -143,13 +149,13 @@ impl Transcript {
         if self.commands.len() == 0 {
             return Err(Problem::Command);
         }
-        let is_regular = matches!(&self.given.patterns, Patterns::Regular);
+        let is_regular = matches!(&self.setup.patterns, Patterns::Regular);
         let files_fail = self
             .faults
             .as_slice()
             .iter()
             .any(|(fault, _)| fault.object == Object::Files);
-        if self.given.is_real && (files_fail || !is_regular) {
+        if self.setup.is_real && (files_fail || !is_regular) {
             return Err(Problem::Real);
         }
         Ok(())
@@ -163,9 +169,9 @@ fn put_all(into: &mut List<Text>, texts: List<Text>) -> Result<(), Memory> {
     Ok(())
 }
 
-fn put_copies(into: &mut List<(Text, Part)>, files: List<(Text, Text)>) -> Result<(), Memory> {
+fn put_copies(into: &mut List<(Text, FilePart)>, files: List<(Text, Text)>) -> Result<(), Memory> {
     for (path, name) in files.into_vec() {
-        into.push((path, Part::Copy(name)))?;
+        into.push((path, FilePart::Copy(name)))?;
     }
     Ok(())
 }
@@ -241,8 +247,8 @@ impl TranscriptReader<'_> {
     }
 
     // Puts the line into the transcript that has begun, or begins one.
-    fn put_line(&mut self, number: u64, line: Line) -> Result<(), Memory> {
-        self.is_comment = self.is_comment && matches!(&line, Line::Comment(_));
+    fn put_line(&mut self, number: u64, line: TranscriptLine) -> Result<(), Memory> {
+        self.is_comment = self.is_comment && matches!(&line, TranscriptLine::Comment(_));
         let alloc = self.alloc;
         self.transcript
             .get_or_insert_with(|| Transcript::new(alloc, number))

@@ -10,6 +10,7 @@ use Rattle.pp_model.specs.declared.config.Config.{Config}
 use Rattle.pp_model.specs.declared.frame.Frame.{Frame}
 use Rattle.pp_model.specs.declared.profile.Profile.{Profile}
 use Rattle.pp_model.specs.declared.profile.Sample.{Sample}
+use Rattle.pp_model.specs.declared.grouping.Grouping.{Grouping}
 use Rattle.pp_model.specs.Conditions.{RefersTo}
 use Rattle.pp_model.specs.Rules.{NoRuleFails}
 use Rattle.pp_model.proofs.RuleLemmas.{item_refers}
@@ -68,34 +69,34 @@ module _ (p : Profile) where
       subst (λ ks. All (IsKeyOf p) ks) (sym is)
       (elim (list_any (same_key key) keys) as (λ b. All (IsKeyOf p) (cond b keys (keys ++ key ∷ []))) [ true ↦ all | false ↦ All-push (IsKeyOf p) keys key all of_profile ])
 
-  module _ (config : Config) (find : Finder) (stack : List Frame) where
+  module _ (grouping : Grouping) (find : Finder) (stack : List Frame) where
     -- the frames so far are added, and those that are left
     abbrev pub AddedTo : List Key → ℕ → List Key → Type 0
     AddedTo old i keys = (k : Written)
-        → (holds_key p keys k || list_any (is_own_frame p config find k) (counted_frames config.noinlines (drop i stack)))
-        ≡ (holds_key p old k || has_own_frame p config find k stack)
+        → (holds_key p keys k || list_any (is_own_frame p grouping find k) (counted_frames grouping.noinlines (drop i stack)))
+        ≡ (holds_key p old k || has_own_frame p grouping find k stack)
 
     pub added_more : (old keys new : List Key) (i : ℕ) → i < length stack
-        → ((k : Written) → holds_key p new k ≡ (holds_key p keys k || is_own_at p config find k stack i))
+        → ((k : Written) → holds_key p new k ≡ (holds_key p keys k || is_own_at p grouping find k stack i))
         → AddedTo old i keys → AddedTo old (i + 1) new
     added_more old keys new i here is so_far = λ k.
         let f : Frame = get_or stack i no_frame in
-        let rest : List Frame = counted_frames config.noinlines (drop (i + 1) stack) in
-        let own : Frame → Bool = is_own_frame p config find k in
-        let step : list_any own (counted_frames config.noinlines (drop i stack)) ≡ ((frame_counts stack i config.noinlines && own f) || list_any own rest) =
-        ap (list_any own) (sym (counts_here stack i config.noinlines f here (get_or_default stack i no_frame f here)))
-        ∙ one own (frame_counts stack i config.noinlines) f rest in
+        let rest : List Frame = counted_frames grouping.noinlines (drop (i + 1) stack) in
+        let own : Frame → Bool = is_own_frame p grouping find k in
+        let step : list_any own (counted_frames grouping.noinlines (drop i stack)) ≡ ((frame_counts stack i grouping.noinlines && own f) || list_any own rest) =
+        ap (list_any own) (sym (counts_here stack i grouping.noinlines f here (get_or_default stack i no_frame f here)))
+        ∙ one own (frame_counts stack i grouping.noinlines) f rest in
         ap (λ b. b || list_any own rest) (is k)
-        ∙ sym (or-assoc (holds_key p keys k) (frame_counts stack i config.noinlines && own f) (list_any own rest))
+        ∙ sym (or-assoc (holds_key p keys k) (frame_counts stack i grouping.noinlines && own f) (list_any own rest))
         ∙ ap (λ b. holds_key p keys k || b) (sym step) ∙ so_far k where
           one : (own : Frame → Bool) (b : Bool) (f : Frame) (rest : List Frame) → list_any own (cond b (f ∷ rest) rest) ≡ ((b && own f) || list_any own rest)
           one own true f rest = refl
           one own false f rest = refl
 
     pub added_all : (old keys : List Key) (i : ℕ) → length stack ≤ i → AddedTo old i keys
-        → (k : Written) → holds_key p keys k ≡ (holds_key p old k || has_own_frame p config find k stack)
+        → (k : Written) → holds_key p keys k ≡ (holds_key p old k || has_own_frame p grouping find k stack)
     added_all old keys i past so_far k =
-        sym (or-false (holds_key p keys k)) ∙ ap (λ fs. holds_key p keys k || list_any (is_own_frame p config find k) (counted_frames config.noinlines fs)) (sym (drop_all i stack past)) ∙ so_far k
+        sym (or-false (holds_key p keys k)) ∙ ap (λ fs. holds_key p keys k || list_any (is_own_frame p grouping find k) (counted_frames grouping.noinlines fs)) (sym (drop_all i stack past)) ∙ so_far k
 
 -- The items so far pass or don't.
 module _ (test : Written → ℕ → Bool) (p : Profile) where
@@ -123,16 +124,16 @@ marked_more names keys i marks key mark at is so_far =
     ∙ sym (map-append (λ x. list_any (same_key x) keys) (take i names) (key ∷ []))
     ∙ ap (map (λ x. list_any (same_key x) keys)) (sym (take_more names i key (slice_get_within names i key at) ∙ ap (λ k. take i names ++ k ∷ []) (get_or_from_slice_get names i key key at)))
 
-module _ (p : Profile) (config : Config) (find : Finder) where
+module _ (p : Profile) (grouping : Grouping) (find : Finder) where
   -- what is asked of the frame at the place, where it counts and is found
   pub own_here : (stack read : List Frame) (place : ℕ) (d : Frame) (key : Key) (k : Written) → read ≡ stack → place < length stack
-      → frame_counts stack place config.noinlines ≡ true → find (written p (get_or read place d)).function ≡ true → key_written p key ≡ key_of_frame p config (get_or read place d)
-      → eq_by_cmp key_cmp k (key_written p key) ≡ is_own_at p config find k stack place
+      → frame_counts stack place grouping.noinlines ≡ true → find (written p (get_or read place d)).function ≡ true → key_written p key ≡ key_of_frame p grouping (get_or read place d)
+      → eq_by_cmp key_cmp k (key_written p key) ≡ is_own_at p grouping find k stack place
   own_here stack read place d key k lent here counted found texts =
       let f : Frame = get_or stack place no_frame in
       let same : get_or read place d ≡ f = ap (λ fs. get_or fs place d) lent ∙ get_or_default stack place d no_frame here in
-      ap (eq_by_cmp key_cmp k) (texts ∙ ap (key_of_frame p config) same)
-      ∙ sym (λ i. counted i && ((ap (λ (x : Frame). find (written p x).function) (sym same) ∙ found) i && eq_by_cmp key_cmp k (key_of_frame p config f)))
+      ap (eq_by_cmp key_cmp k) (texts ∙ ap (key_of_frame p grouping) same)
+      ∙ sym (λ i. counted i && ((ap (λ (x : Frame). find (written p x).function) (sym same) ∙ found) i && eq_by_cmp key_cmp k (key_of_frame p grouping f)))
 
 -- what is asked may be asked in another form
 pub found_as : {T E : Type 0} (r : Result T E) (new old a b : Written → Bool) → ((k : Written) → a k ≡ b k)
@@ -152,28 +153,28 @@ module _ (p : Profile) (f : Finders) (config : Config) (column : Option ℕ) (fi
   dropped none a k =
       sym (or-false a)
       ∙ ap (λ b. a || b) (sym (ap (λ o. option_map_or (has_own_sample p f config column find k) o false) there
-      ∙ ap (λ o. not (int_eq (selected column config.divide_by s) (pos 0)) && option_map_or (has_own_frame p config find k) o false) none
-      ∙ and-false (not (int_eq (selected column config.divide_by s) (pos 0))))) where
+      ∙ ap (λ o. not (int_eq (selected column config.presentation.divide_by s) (pos 0)) && option_map_or (has_own_frame p config.grouping find k) o false) none
+      ∙ and-false (not (int_eq (selected column config.presentation.divide_by s) (pos 0))))) where
         and-false : (b : Bool) → (b && false) ≡ false
         and-false true = refl
         and-false false = refl
 
   -- its value is 0
-  pub without_value : selected column config.divide_by s ≡ pos 0 → (a : Bool) (k : Written) → a ≡ (a || has_own_number p f config column find k n)
+  pub without_value : selected column config.presentation.divide_by s ≡ pos 0 → (a : Bool) (k : Written) → a ≡ (a || has_own_number p f config column find k n)
   without_value zero a k =
       sym (or-false a)
       ∙ ap (λ b. a || b) (sym (ap (λ o. option_map_or (has_own_sample p f config column find k) o false) there
-      ∙ ap (λ z. not (int_eq z (pos 0)) && option_map_or (has_own_frame p config find k) (frames_of_sample p f s) false) zero))
+      ∙ ap (λ z. not (int_eq z (pos 0)) && option_map_or (has_own_frame p config.grouping find k) (frames_of_sample p f s) false) zero))
 
   -- it is there, and the value isn't 0
-  pub asked : (stack : List Frame) → frames_of_sample p f s ≡ Some stack → (selected column config.divide_by s ≡ pos 0 → ⊥) → (k : Written)
-      → has_own_frame p config find k stack ≡ has_own_number p f config column find k n
+  pub asked : (stack : List Frame) → frames_of_sample p f s ≡ Some stack → (selected column config.presentation.divide_by s ≡ pos 0 → ⊥) → (k : Written)
+      → has_own_frame p config.grouping find k stack ≡ has_own_number p f config column find k n
   asked stack is some k =
       sym (ap (λ o. option_map_or (has_own_sample p f config column find k) o false) there
-      ∙ (λ i. not (nonzero i) && option_map_or (has_own_frame p config find k) (is i) false)) where
-        nonzero : int_eq (selected column config.divide_by s) (pos 0) ≡ false
-        nonzero = elim (int_eq (selected column config.divide_by s) (pos 0)) as (λ b. int_eq (selected column config.divide_by s) (pos 0) ≡ b → b ≡ false) [
-          | true ↦ λ e. absurd (some ((Decides-int_eq (selected column config.divide_by s) (pos 0)).0 e))
+      ∙ (λ i. not (nonzero i) && option_map_or (has_own_frame p config.grouping find k) (is i) false)) where
+        nonzero : int_eq (selected column config.presentation.divide_by s) (pos 0) ≡ false
+        nonzero = elim (int_eq (selected column config.presentation.divide_by s) (pos 0)) as (λ b. int_eq (selected column config.presentation.divide_by s) (pos 0) ≡ b → b ≡ false) [
+          | true ↦ λ e. absurd (some ((Decides-int_eq (selected column config.presentation.divide_by s) (pos 0)).0 e))
           | false ↦ λ e. refl
         ] refl
 

@@ -7,8 +7,8 @@ use Rattle.std.proofs.lemmas.Bool.{false≢true}
 use Rattle.std.proofs.lemmas.List.{get_or-map}
 use Rattle.std.proofs.lemmas.List.Elements.{All-head, All-tail}
 use Rattle.pp_model.specs.declared.config.Config.{Config}
-use Rattle.pp_model.specs.declared.config.Grain.{Grain}
-use Rattle.pp_model.specs.declared.config.Grain.TheVariants.{Functions, FileFunctions, Files, Lines, Addresses}
+use Rattle.pp_model.specs.declared.grouping.Grain.{Grain}
+use Rattle.pp_model.specs.declared.grouping.Grain.TheVariants.{Functions, FileFunctions, Files, Lines, Addresses}
 use Rattle.pp_model.specs.declared.profile.Profile.{Profile}
 use Rattle.pp_model.specs.Finders.{Finder, Finders}
 use Rattle.pp_model.specs.FrameTexts.{Written}
@@ -38,10 +38,10 @@ function_kept Addresses columns w keeps = refl
 
 module _ (p : Profile) (f : Finders) (config : Config) (column : Option ℕ) where
   -- a frame that is found has a key that occurs
-  own_occurs : (k : Written) (ws : List Written) → list_any (is_own_of f config k) ws ≡ true → has key_cmp k (map (key_of_written config) ws) ≡ true
+  own_occurs : (k : Written) (ws : List Written) → list_any (is_own_of f config.grouping k) ws ≡ true → has key_cmp k (map (key_of_written config.grouping) ws) ≡ true
   own_occurs k ws some =
-      list_any-map (key_of_written config) (eq_by_cmp key_cmp k) ws
-      ∙ any_implies (is_own_of f config k) (λ w. eq_by_cmp key_cmp k (key_of_written config w)) (λ w e. second (finds_own f w) (eq_by_cmp key_cmp k (key_of_written config w)) e) ws some where
+      list_any-map (key_of_written config.grouping) (eq_by_cmp key_cmp k) ws
+      ∙ any_implies (is_own_of f config.grouping k) (λ w. eq_by_cmp key_cmp k (key_of_written config.grouping w)) (λ w e. second (finds_own f w) (eq_by_cmp key_cmp k (key_of_written config.grouping w)) e) ws some where
         second : (a b : Bool) → (a && b) ≡ true → b ≡ true
         second true b e = e
         second false b e = absurd (false≢true e)
@@ -50,16 +50,16 @@ module _ (p : Profile) (f : Finders) (config : Config) (column : Option ℕ) whe
   pub found_occurs : (k : Written) → is_found_key p f config column k ≡ true → occurs key_cmp (report_samples p f config column) k ≡ true
   found_occurs k some =
       sym (ap (λ ss. occurs key_cmp ss k) (keyed_report p f config column))
-      ∙ list_any-map (renamed (key_of_written config)) (λ (s : Seen Written). has key_cmp k s.keys) (report_frames p f config column)
-      ∙ any_implies (λ (s : Seen Written). list_any (is_own_of f config k) s.keys) (λ (s : Seen Written). has key_cmp k (map (key_of_written config) s.keys))
+      ∙ list_any-map (renamed (key_of_written config.grouping)) (λ (s : Seen Written). has key_cmp k s.keys) (report_frames p f config column)
+      ∙ any_implies (λ (s : Seen Written). list_any (is_own_of f config.grouping k) s.keys) (λ (s : Seen Written). has key_cmp k (map (key_of_written config.grouping) s.keys))
       (λ s e. own_occurs k s.keys e) (report_frames p f config column) some
 
-  module _ (keeps : keeps_function config.grain ≡ true) (k : Written) where
+  module _ (keeps : keeps_function config.grouping.grain ≡ true) (k : Written) where
     -- a frame with the key is found where the key's function is
-    own_by_key : (w : Written) → is_own_of f config k w ≡ (finds_own f k && eq_by_cmp key_cmp k (key_of_written config w))
-    own_by_key w = elim (eq_by_cmp key_cmp k (key_of_written config w)) as (λ b. eq_by_cmp key_cmp k (key_of_written config w) ≡ b → (finds_own f w && b) ≡ (finds_own f k && b)) [
+    own_by_key : (w : Written) → is_own_of f config.grouping k w ≡ (finds_own f k && eq_by_cmp key_cmp k (key_of_written config.grouping w))
+    own_by_key w = elim (eq_by_cmp key_cmp k (key_of_written config.grouping w)) as (λ b. eq_by_cmp key_cmp k (key_of_written config.grouping w) ≡ b → (finds_own f w && b) ≡ (finds_own f k && b)) [
       | true ↦ λ e.
-          let same : w.function ≡ k.function = sym (ap (λ (x : Written). x.function) (tied k (key_of_written config w) e) ∙ function_kept config.grain config.showcolumns w keeps) in
+          let same : w.function ≡ k.function = sym (ap (λ (x : Written). x.function) (tied k (key_of_written config.grouping w) e) ∙ function_kept config.grouping.grain config.grouping.showcolumns w keeps) in
           ap (λ (text : List ℕ). option_map_or (λ (find : Finder). find text) f.own false && true) same
       | false ↦ λ e. none (finds_own f w) ∙ sym (none (finds_own f k))
     ] refl where
@@ -67,14 +67,14 @@ module _ (p : Profile) (f : Finders) (config : Config) (column : Option ℕ) whe
       none true = refl
       none false = refl
 
-    in_sample : (b : Bool) → finds_own f k ≡ b → (ws : List Written) → list_any (is_own_of f config k) ws ≡ (b && has key_cmp k (map (key_of_written config) ws))
+    in_sample : (b : Bool) → finds_own f k ≡ b → (ws : List Written) → list_any (is_own_of f config.grouping k) ws ≡ (b && has key_cmp k (map (key_of_written config.grouping) ws))
     in_sample true e [] = refl
     in_sample false e [] = refl
-    in_sample true e (w ∷ ws) = λ i. (own_by_key w ∙ ap (λ b. b && eq_by_cmp key_cmp k (key_of_written config w)) e) i || in_sample true e ws i
-    in_sample false e (w ∷ ws) = λ i. (own_by_key w ∙ ap (λ b. b && eq_by_cmp key_cmp k (key_of_written config w)) e) i || in_sample false e ws i
+    in_sample true e (w ∷ ws) = λ i. (own_by_key w ∙ ap (λ b. b && eq_by_cmp key_cmp k (key_of_written config.grouping w)) e) i || in_sample true e ws i
+    in_sample false e (w ∷ ws) = λ i. (own_by_key w ∙ ap (λ b. b && eq_by_cmp key_cmp k (key_of_written config.grouping w)) e) i || in_sample false e ws i
 
     in_samples : (b : Bool) → finds_own f k ≡ b → (ss : List (Seen Written))
-        → list_any (λ s. list_any (is_own_of f config k) s.keys) ss ≡ (b && occurs key_cmp (map (renamed (key_of_written config)) ss) k)
+        → list_any (λ s. list_any (is_own_of f config.grouping k) s.keys) ss ≡ (b && occurs key_cmp (map (renamed (key_of_written config.grouping)) ss) k)
     in_samples true e [] = refl
     in_samples false e [] = refl
     in_samples true e (s ∷ ss) = λ i. in_sample true e s.keys i || in_samples true e ss i
@@ -106,7 +106,7 @@ verdicts_found p find test (key ∷ names) of_profile tests = λ i.
     ∷ verdicts_found p find test names (All-tail (IsKeyOf p) key names of_profile) (All-tail (λ k. test (key_written p k) ≡ find (key_written p k).function) key names tests) i
 
 module _ (p : Profile) (f : Finders) (config : Config) (column : Option ℕ) (sums : Sums) (are : AreSumsOf p (report_samples p f config column) sums) where
-  pub named_found : (find : Finder) → f.own ≡ Some find → keeps_function config.grain ≡ true → All (IsKeyOf p) sums.names
+  pub named_found : (find : Finder) → f.own ≡ Some find → keeps_function config.grouping.grain ≡ true → All (IsKeyOf p) sums.names
       → map (λ key. slice_index_or (map find p.text) key.function false) sums.names ≡ map (λ key. is_found_key p f config column (key_written p key)) sums.names
   named_found find own keeps of_profile = verdicts_found p find (is_found_key p f config column) sums.names of_profile (λ i d here.
       let k : Written = key_written p (get_or sums.names i d) in

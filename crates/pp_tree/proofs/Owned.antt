@@ -58,41 +58,41 @@ own_finder p (Some find) own verdicts is there = (find, refl, same_Some _ _ (sym
 module _ (p : Profile) (f : Finders) (config : Config) (column : Option ℕ) where
   -- a key that is found is that of a frame that is found
   pub key_match : (k : Written) → is_found_key p f config column k ≡ true → has_own_match p f config column ≡ true
-  key_match k some = any_implies (λ (s : Seen Written). list_any (is_own_of f config k) s.keys) (λ (s : Seen Written). list_any (finds_own f) s.keys)
-      (λ s e. any_implies (is_own_of f config k) (finds_own f) (λ w t. first (finds_own f w) (eq_by_cmp key_cmp k (key_texts config.grain config.showcolumns w)) t) s.keys e) (report_frames p f config column) some where
+  key_match k some = any_implies (λ (s : Seen Written). list_any (is_own_of f config.grouping k) s.keys) (λ (s : Seen Written). list_any (finds_own f) s.keys)
+      (λ s e. any_implies (is_own_of f config.grouping k) (finds_own f) (λ w t. first (finds_own f w) (eq_by_cmp key_cmp k (key_texts config.grouping.grain config.grouping.showcolumns w)) t) s.keys e) (report_frames p f config column) some where
         first : (a b : Bool) → (a && b) ≡ true → a ≡ true
         first true b e = refl
         first false b e = e
 
-  own_in : (ws : List Written) → list_any (finds_own f) ws ≡ true → (k : Written) × (list_any (is_own_of f config k) ws ≡ true)
+  own_in : (ws : List Written) → list_any (finds_own f) ws ≡ true → (k : Written) × (list_any (is_own_of f config.grouping k) ws ≡ true)
   own_in [] some = absurd (false≢true some)
   own_in (w ∷ ws) some =
-      elim (finds_own f w) as (λ b. finds_own f w ≡ b → (b || list_any (finds_own f) ws) ≡ true → (k : Written) × (list_any (is_own_of f config k) (w ∷ ws) ≡ true)) [
+      elim (finds_own f w) as (λ b. finds_own f w ≡ b → (b || list_any (finds_own f) ws) ≡ true → (k : Written) × (list_any (is_own_of f config.grouping k) (w ∷ ws) ≡ true)) [
         | true ↦ λ e s.
-            let k : Written = key_texts config.grain config.showcolumns w in
-            let here : list_any (is_own_of f config k) (w ∷ ws) ≡ true = λ i. (e i && tied_self k i) || list_any (is_own_of f config k) ws in
+            let k : Written = key_texts config.grouping.grain config.grouping.showcolumns w in
+            let here : list_any (is_own_of f config.grouping k) (w ∷ ws) ≡ true = λ i. (e i && tied_self k i) || list_any (is_own_of f config.grouping k) ws in
             (k, here)
         | false ↦ λ e s.
             let rest = own_in ws s in
-            let there : list_any (is_own_of f config rest.0) (w ∷ ws) ≡ true =
-            ap (λ b. is_own_of f config rest.0 w || b) rest.1 ∙ elim (is_own_of f config rest.0 w) as (λ b. (b || true) ≡ true) [ true ↦ refl | false ↦ refl ] in
+            let there : list_any (is_own_of f config.grouping rest.0) (w ∷ ws) ≡ true =
+            ap (λ b. is_own_of f config.grouping rest.0 w || b) rest.1 ∙ elim (is_own_of f config.grouping rest.0 w) as (λ b. (b || true) ≡ true) [ true ↦ refl | false ↦ refl ] in
             (rest.0, there)
       ] refl some
 
-  own_among : (ss : List (Seen Written)) → list_any (λ s. list_any (finds_own f) s.keys) ss ≡ true → (k : Written) × (list_any (λ s. list_any (is_own_of f config k) s.keys) ss ≡ true)
+  own_among : (ss : List (Seen Written)) → list_any (λ s. list_any (finds_own f) s.keys) ss ≡ true → (k : Written) × (list_any (λ s. list_any (is_own_of f config.grouping k) s.keys) ss ≡ true)
   own_among [] some = absurd (false≢true some)
   own_among (s ∷ ss) some =
       elim (list_any (finds_own f) s.keys) as (λ b. list_any (finds_own f) s.keys ≡ b → (b || list_any (λ t. list_any (finds_own f) t.keys) ss) ≡ true
-      → (k : Written) × (list_any (λ t. list_any (is_own_of f config k) t.keys) (s ∷ ss) ≡ true)) [
+      → (k : Written) × (list_any (λ t. list_any (is_own_of f config.grouping k) t.keys) (s ∷ ss) ≡ true)) [
         | true ↦ λ e r.
             let here = own_in s.keys e in
-            let is : list_any (λ (t : Seen Written). list_any (is_own_of f config here.0) t.keys) (s ∷ ss) ≡ true =
-            ap (λ b. b || list_any (λ (t : Seen Written). list_any (is_own_of f config here.0) t.keys) ss) here.1 in
+            let is : list_any (λ (t : Seen Written). list_any (is_own_of f config.grouping here.0) t.keys) (s ∷ ss) ≡ true =
+            ap (λ b. b || list_any (λ (t : Seen Written). list_any (is_own_of f config.grouping here.0) t.keys) ss) here.1 in
             (here.0, is)
         | false ↦ λ e r.
             let rest = own_among ss r in
-            let is : list_any (λ (t : Seen Written). list_any (is_own_of f config rest.0) t.keys) (s ∷ ss) ≡ true =
-            ap (λ b. list_any (is_own_of f config rest.0) s.keys || b) rest.1 ∙ elim (list_any (is_own_of f config rest.0) s.keys) as (λ b. (b || true) ≡ true) [ true ↦ refl | false ↦ refl ] in
+            let is : list_any (λ (t : Seen Written). list_any (is_own_of f config.grouping rest.0) t.keys) (s ∷ ss) ≡ true =
+            ap (λ b. list_any (is_own_of f config.grouping rest.0) s.keys || b) rest.1 ∙ elim (list_any (is_own_of f config.grouping rest.0) s.keys) as (λ b. (b || true) ≡ true) [ true ↦ refl | false ↦ refl ] in
             (rest.0, is)
       ] refl some
 
@@ -110,21 +110,21 @@ module _ (p : Profile) (f : Finders) (config : Config) (column : Option ℕ) whe
     not_in_force None e = refl
     not_in_force (Some find) e = absurd (none-some (map find p.text) (sym none ∙ e))
 
-    none_found : (k : Written) (ws : List Written) → list_any (is_own_of f config k) ws ≡ false
+    none_found : (k : Written) (ws : List Written) → list_any (is_own_of f config.grouping k) ws ≡ false
     none_found k [] = refl
     none_found k (w ∷ ws) =
-        (λ i. (option_map_or (λ find. find w.function) (not_in_force f.own is i) false && eq_by_cmp key_cmp k (key_texts config.grain config.showcolumns w)) || list_any (is_own_of f config k) ws)
+        (λ i. (option_map_or (λ find. find w.function) (not_in_force f.own is i) false && eq_by_cmp key_cmp k (key_texts config.grouping.grain config.grouping.showcolumns w)) || list_any (is_own_of f config.grouping k) ws)
         ∙ none_found k ws
 
-    nothing : (k : Written) (ss : List (Seen Written)) → list_any (λ s. list_any (is_own_of f config k) s.keys) ss ≡ false
+    nothing : (k : Written) (ss : List (Seen Written)) → list_any (λ s. list_any (is_own_of f config.grouping k) s.keys) ss ≡ false
     nothing k [] = refl
-    nothing k (s ∷ ss) = (λ i. none_found k s.keys i || list_any (λ (t : Seen Written). list_any (is_own_of f config k) t.keys) ss) ∙ nothing k ss
+    nothing k (s ∷ ss) = (λ i. none_found k s.keys i || list_any (λ (t : Seen Written). list_any (is_own_of f config.grouping k) t.keys) ss) ∙ nothing k ss
 
   module _ (find : Finder) (own_is : f.own ≡ Some find) where
-    own_frames : (k : Written) (fs : List Frame) → list_any (is_own_of f config k) (map (written p) fs) ≡ list_any (is_own_frame p config find k) fs
+    own_frames : (k : Written) (fs : List Frame) → list_any (is_own_of f config.grouping k) (map (written p) fs) ≡ list_any (is_own_frame p config.grouping find k) fs
     own_frames k [] = refl
     own_frames k (x ∷ fs) = λ i.
-        (option_map_or (λ find. find (written p x).function) (own_is i) false && eq_by_cmp key_cmp k (key_texts config.grain config.showcolumns (written p x)))
+        (option_map_or (λ find. find (written p x).function) (own_is i) false && eq_by_cmp key_cmp k (key_texts config.grouping.grain config.grouping.showcolumns (written p x)))
         || own_frames k fs i
 
     whole : (b : Bool) (o : Option (List Frame)) (stack : List Frame) → cond b o None ≡ Some stack → o ≡ Some stack
@@ -132,37 +132,37 @@ module _ (p : Profile) (f : Finders) (config : Config) (column : Option ℕ) whe
     whole false o stack e = absurd (none-some stack e)
 
     over_samples : (k : Written) (ss : List Sample)
-        → list_any (has_own_sample p f config column find k) (filter (λ s. is_some (filtered_stack p f config s)) ss)
-        ≡ list_any (λ s. list_any (is_own_of f config k) s.keys) (weighed (framed_samples p f config column ss))
+        → list_any (has_own_sample p f config column find k) (filter (λ s. is_some (filtered_stack p f config.filtering s)) ss)
+        ≡ list_any (λ s. list_any (is_own_of f config.grouping k) s.keys) (weighed (framed_samples p f config column ss))
     over_samples k [] = refl
     over_samples k (s ∷ ss) =
-        elim (filtered_stack p f config s) as (λ o. filtered_stack p f config s ≡ o
-        → list_any (has_own_sample p f config column find k) (cond (is_some o) (s ∷ filter (λ t. is_some (filtered_stack p f config t)) ss) (filter (λ t. is_some (filtered_stack p f config t)) ss))
-        ≡ list_any (λ t. list_any (is_own_of f config k) t.keys) (weighed (cons_option (option_map (framed_with p config column s) o) (framed_samples p f config column ss)))) [
+        elim (filtered_stack p f config.filtering s) as (λ o. filtered_stack p f config.filtering s ≡ o
+        → list_any (has_own_sample p f config column find k) (cond (is_some o) (s ∷ filter (λ t. is_some (filtered_stack p f config.filtering t)) ss) (filter (λ t. is_some (filtered_stack p f config.filtering t)) ss))
+        ≡ list_any (λ t. list_any (is_own_of f config.grouping k) t.keys) (weighed (cons_option (option_map (framed_with p config column s) o) (framed_samples p f config column ss)))) [
           | None ↦ λ e. over_samples k ss
           | Some stack ↦ λ e.
-              let frames : frames_of_sample p f s ≡ Some stack = whole (passes_tags p f config s) (frames_of_sample p f s) stack e in
-              ap (λ o. (not (int_eq (selected column config.divide_by s) (pos 0)) && option_map_or (has_own_frame p config find k) o false)
-              || list_any (has_own_sample p f config column find k) (filter (λ t. is_some (filtered_stack p f config t)) ss)) frames
-              ∙ (λ i. (not (int_eq (selected column config.divide_by s) (pos 0)) && sym (own_frames k (counted_frames config.noinlines stack)) i) || over_samples k ss i)
-              ∙ one (not (int_eq (selected column config.divide_by s) (pos 0))) (framed_with p config column s stack) (weighed (framed_samples p f config column ss))
+              let frames : frames_of_sample p f s ≡ Some stack = whole (passes_tags p f config.filtering s) (frames_of_sample p f s) stack e in
+              ap (λ o. (not (int_eq (selected column config.presentation.divide_by s) (pos 0)) && option_map_or (has_own_frame p config.grouping find k) o false)
+              || list_any (has_own_sample p f config column find k) (filter (λ t. is_some (filtered_stack p f config.filtering t)) ss)) frames
+              ∙ (λ i. (not (int_eq (selected column config.presentation.divide_by s) (pos 0)) && sym (own_frames k (counted_frames config.grouping.noinlines stack)) i) || over_samples k ss i)
+              ∙ one (not (int_eq (selected column config.presentation.divide_by s) (pos 0))) (framed_with p config column s stack) (weighed (framed_samples p f config column ss))
         ] refl where
           one : (b : Bool) (x : Seen Written) (rest : List (Seen Written))
-              → ((b && list_any (is_own_of f config k) x.keys) || list_any (λ t. list_any (is_own_of f config k) t.keys) rest)
-              ≡ list_any (λ t. list_any (is_own_of f config k) t.keys) (cond b (x ∷ rest) rest)
+              → ((b && list_any (is_own_of f config.grouping k) x.keys) || list_any (λ t. list_any (is_own_of f config.grouping k) t.keys) rest)
+              ≡ list_any (λ t. list_any (is_own_of f config.grouping k) t.keys) (cond b (x ∷ rest) rest)
           one true x rest = refl
           one false x rest = refl
 
     -- over the samples that the filters leave, by their numbers
-    pub own_key_is : (kept : List ℕ) → kept ≡ filtered_from p f config 0 p.sample → (k : Written)
+    pub own_key_is : (kept : List ℕ) → kept ≡ filtered_from p f config.filtering 0 p.sample → (k : Written)
         → list_any (has_own_number p f config column find k) kept ≡ is_found_key p f config column k
     own_key_is kept is k =
         sym (any-filter_map (has_own_sample p f config column find k) (slice_get p.sample) kept)
-        ∙ ap (list_any (has_own_sample p f config column find k)) (kept_samples p f config kept is)
+        ∙ ap (list_any (has_own_sample p f config column find k)) (kept_samples p f config.filtering kept is)
         ∙ over_samples k p.sample
 
     -- the keys that are gathered over them are those that are found
-    pub keys_found : (numbers kept : List ℕ) (keys : List Key) → numbers ≡ kept → kept ≡ filtered_from p f config 0 p.sample
+    pub keys_found : (numbers kept : List ℕ) (keys : List Key) → numbers ≡ kept → kept ≡ filtered_from p f config.filtering 0 p.sample
         → ((k : Written) → holds_key p keys k ≡ list_any (has_own_number p f config column find k) numbers)
         → (k : Written) → holds_key p keys k ≡ is_found_key p f config column k
     keys_found numbers kept keys lent is gathered k = gathered k ∙ own_key_is numbers (lent ∙ is) k

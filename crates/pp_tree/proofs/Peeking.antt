@@ -147,7 +147,7 @@ module _ (own : Written → Bool) (pairs : Pairs) (k : Written) (is : own k ≡ 
   callees_about : callees_in (pairs_about own pairs) k ≡ callees_in pairs k
   callees_about = λ i. neighbour_list key_cmp (λ callee. (is i || own callee) && pairs.shows k callee) (λ callee. pairs.value k callee) pairs.keys
 
-module _ (l : Loaded) (v : Verdicts) (config : Config) (column : Option ℕ) (c : Counted) (f : Finders) (holds : HoldsFilters l v config f) (counted : IsCountedOf l v config column c) where
+module _ (l : Loaded) (v : Verdicts) (config : Config) (column : Option ℕ) (c : Counted) (f : Finders) (holds : HoldsFilters l v config.filtering f) (counted : IsCountedOf l v config column c) where
   -- the graph of the edges about some keys shows the pairs about them
   pub about_shows : (own : Written → Bool) (g : EdgeLinks) (keep marked : List Bool) (edges : List Edge) → keep ≡ replicate (length c.sums.names) true
       → marked ≡ map (λ key. own (key_written l.profile key)) c.sums.names → live_edges g ≡ edges

@@ -59,13 +59,13 @@ nodes_are p samples sums pairs (n ∷ order) are below = λ i.
 -- the pairs of a tree report
 abbrev pub report_pairs : Profile → Finders → Config → Option ℕ → ℕ → Pairs
 report_pairs p f config column limit = record {
-  shows = has_heavy_edge key_cmp (is_report_key p f config column limit) (report_samples p f config column) (total_of p f config column) config.edgefraction.billionths;
+  shows = has_heavy_edge key_cmp (is_report_key p f config column limit) (report_samples p f config column) (total_of p f config column) config.presentation.edgefraction.billionths;
   value = edge_sum key_cmp (is_report_key p f config column limit) (report_samples p f config column);
   keys = all_keys (report_samples p f config column);
 }
 
 module _ (l : Loaded) (v : Verdicts) (config : Config) (column : Option ℕ) (limit : ℕ) (f : Finders) (c : Counted) (t : Trimmed)
-    (counted : IsCountedOf l v config column c) (trimmed : IsTrimmedOf l v config column limit c t) (holds : HoldsFilters l v config f) where
+    (counted : IsCountedOf l v config column c) (trimmed : IsTrimmedOf l v config column limit c t) (holds : HoldsFilters l v config.filtering f) where
   -- the trimmed graph shows them
   pub report_shows : ShowsPairs l.profile c.sums.names t.graph (report_pairs l.profile f config column limit)
   report_shows = record {

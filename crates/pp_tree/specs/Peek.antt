@@ -4,6 +4,7 @@ use Rattle.std.specs.List.{filter, list_any}
 use Rattle.std.specs.Ordering.{eq_by_cmp}
 use Rattle.pp_model.specs.declared.config.Config.{Config}
 use Rattle.pp_model.specs.declared.profile.Profile.{Profile}
+use Rattle.pp_model.specs.declared.grouping.Grouping.{Grouping}
 use Rattle.pp_model.specs.Finders.{Finders}
 use Rattle.pp_model.specs.FrameTexts.{Written}
 use Rattle.pp_units.specs.Head.{Facts, facts_text}
@@ -17,14 +18,15 @@ use Rattle.pp_tree.specs.Nodes.{Node, table_heading, tree_nodes_text}
 use Rattle.pp_tree.specs.Tree.{near_of}
 
 -- the own pattern finds the frame's function, and the key is the frame's
-abbrev pub is_own_of : Finders → Config → Written → Written → Bool
-is_own_of f config k w =
-    finds_own f w && eq_by_cmp key_cmp k (key_texts config.grain config.showcolumns w)
+abbrev pub is_own_of : Finders → Grouping → Written → Written → Bool
+is_own_of f grouping k w =
+    finds_own f w && eq_by_cmp key_cmp k (key_texts grouping.grain grouping.showcolumns w)
 
 -- Whether the own pattern finds the function of a frame that counts and has the key.
 abbrev pub is_found_key : Profile → Finders → Config → Option ℕ → Written → Bool
 is_found_key p f config column k =
-    list_any (λ s. list_any (is_own_of f config k) s.keys) (report_frames p f config column)
+    list_any (λ s. list_any (is_own_of f config.grouping k) s.keys)
+    (report_frames p f config column)
 
 -- the node of a key with all its callers and callees
 abbrev pub whole_node_of : Profile → Finders → Config → Option ℕ → Written → Node

@@ -19,16 +19,16 @@ use std::alloc::Global;
 /// says that it finds none of any frame.
 pub fn found_names(alloc: Global, survey: &Survey<'_>) -> Result<List<bool>, MatchRefusal>
     ensures found { (f : Finders) →
-        HoldsFilters survey.now.l.now survey.now.v.now survey.now.config.now f →
+        HoldsFilters survey.now.l.now survey.now.v.now survey.now.config.now.filtering f →
         IfOk result (λ found. found ≡ map (λ key. is_found_key survey.now.l.now.profile f
         survey.now.config.now survey.now.column (key_written survey.now.l.now.profile key))
         survey.now.counted.now.sums.names) }
     ensures some { (f : Finders) →
-        HoldsFilters survey.now.l.now survey.now.v.now survey.now.config.now f →
+        HoldsFilters survey.now.l.now survey.now.v.now survey.now.config.now.filtering f →
         IfOk result (λ _. has_own_match survey.now.l.now.profile f survey.now.config.now
         survey.now.column ≡ true) }
     ensures none { (f : Finders) →
-        HoldsFilters survey.now.l.now survey.now.v.now survey.now.config.now f →
+        HoldsFilters survey.now.l.now survey.now.v.now survey.now.config.now.filtering f →
         IfErr result (λ e. e ≡ MatchRefusal.NoMatch →
         has_own_match survey.now.l.now.profile f survey.now.config.now
         survey.now.column ≡ false) }
@@ -54,12 +54,12 @@ fn has_mark(marks: &[bool]) -> bool
 fn marked_names(alloc: Global, survey: &Survey<'_>, own: &List<bool>) -> Result<List<bool>, Memory>
     requires { survey.now.v.now.own ≡ Some own.now }
     ensures { (f : Finders) →
-        HoldsFilters survey.now.l.now survey.now.v.now survey.now.config.now f →
+        HoldsFilters survey.now.l.now survey.now.v.now survey.now.config.now.filtering f →
         IfOk result (λ found. found ≡ map (λ key. is_found_key survey.now.l.now.profile f
         survey.now.config.now survey.now.column (key_written survey.now.l.now.profile key))
         survey.now.counted.now.sums.names) }
 {
-    if keeps_function(survey.config.grain) {
+    if keeps_function(survey.config.grouping.grain) {
         found_by_functions(alloc, own.as_slice(), &survey.counted.sums.names)
     } else {
         found_by_frames(alloc, survey, own)

@@ -22,9 +22,9 @@ use pp_model::{Config, Frame, Loaded, Stack, Verdicts, function_of};
 use pp_stack::{VerdictTables, filter_into};
 use std::alloc::Global;
 
-/// What samples are asked by.
+/// How samples are seen, with the verdicts of the own pattern of a report.
 #[derive(Clone, Copy)]
-pub struct Asked<'a> {
+pub struct PeekScope<'a> {
     /// The profile.
     pub l: &'a Loaded,
     /// What the patterns of the report find of its texts.
@@ -46,14 +46,14 @@ pub fn found_by_frames(
 ) -> Result<List<bool>, Memory>
     requires { survey.now.v.now.own ≡ Some own.now }
     ensures { (f : Finders) →
-        HoldsFilters survey.now.l.now survey.now.v.now survey.now.config.now f →
+        HoldsFilters survey.now.l.now survey.now.v.now survey.now.config.now.filtering f →
         IfOk result (λ found. found ≡ map (λ key. is_found_key survey.now.l.now.profile f
         survey.now.config.now survey.now.column (key_written survey.now.l.now.profile key))
         survey.now.counted.now.sums.names) }
 {
     let (l, v, counted) = (survey.l, survey.v, survey.counted);
     let _compact = l.profile.get();
-    let asked = Asked {
+    let asked = PeekScope {
         l,
         v,
         own,
@@ -75,7 +75,7 @@ pub fn found_by_frames(
 fn own_keys(
     alloc: Global,
     hash_keys: HashKeys,
-    asked: &Asked<'_>,
+    asked: &PeekScope<'_>,
     tables: &VerdictTables,
     kept: &[u32],
 ) -> Result<IndexSet<Key, HashKeys>, Memory>
@@ -98,7 +98,7 @@ fn own_keys(
 
 // Adds the keys of the sample with the number, if it is there. The stack is room for its frames.
 fn add_sample(
-    asked: &Asked<'_>,
+    asked: &PeekScope<'_>,
     tables: &VerdictTables,
     number: u32,
     stack: &mut Stack,
@@ -118,7 +118,13 @@ fn add_sample(
     let Some(sample) = samples.get(number as usize) else {
         return Ok(());
     };
-    if selected(asked.l, sample, asked.column, asked.config.divide_by) == 0 {
+    if selected(
+        asked.l,
+        sample,
+        asked.column,
+        asked.config.presentation.divide_by,
+    ) == 0
+    {
         return Ok(());
     }
     if !filter_into(asked.l, asked.v, tables, sample, stack)? {
@@ -128,7 +134,7 @@ fn add_sample(
 }
 
 fn add_stack(
-    asked: &Asked<'_>,
+    asked: &PeekScope<'_>,
     stack: &Stack,
     keys: &mut IndexSet<Key, HashKeys>,
 ) -> Result<(), Memory>
@@ -139,7 +145,7 @@ fn add_stack(
     ensures found { (find : Finder) → AreVerdicts asked.now.l.now.profile asked.now.own.now find →
         IfOk result (λ _. (k : Written) → holds_key asked.now.l.now.profile keys.new.keys k
         ≡ (holds_key asked.now.l.now.profile keys.old.keys k
-        || has_own_frame asked.now.l.now.profile asked.now.config.now find k stack.now)) }
+        || has_own_frame asked.now.l.now.profile asked.now.config.now.grouping find k stack.now)) }
 {
     for place in 0..stack.len() {
         add_frame(asked, stack, place, keys)?;
@@ -149,7 +155,7 @@ fn add_stack(
 
 // Adds the key of the frame at the place, if it counts and the pattern finds it.
 fn add_frame(
-    asked: &Asked<'_>,
+    asked: &PeekScope<'_>,
     stack: &Stack,
     place: usize,
     keys: &mut IndexSet<Key, HashKeys>,
@@ -162,23 +168,29 @@ fn add_frame(
     ensures found { (find : Finder) → AreVerdicts asked.now.l.now.profile asked.now.own.now find →
         IfOk result (λ _. (k : Written) → holds_key asked.now.l.now.profile keys.new.keys k
         ≡ (holds_key asked.now.l.now.profile keys.old.keys k
-        || is_own_at asked.now.l.now.profile asked.now.config.now find k stack.now place)) }
+        || is_own_at asked.now.l.now.profile asked.now.config.now.grouping find k stack.now
+        place)) }
 {
     let config = asked.config;
     let frame = &stack.as_slice()[place];
-    if !counted(stack, place, config.noinlines) {
+    if !counted(stack, place, config.grouping.noinlines) {
         return Ok(());
     }
     if !is_own(asked, frame) {
         return Ok(());
     }
-    let key = key_of(asked.l, frame, config.grain, config.showcolumns);
+    let key = key_of(
+        asked.l,
+        frame,
+        config.grouping.grain,
+        config.grouping.showcolumns,
+    );
     keys.insert(key)?;
     Ok(())
 }
 
 // Whether the pattern finds the frame's function.
-fn is_own(asked: &Asked<'_>, frame: &Frame) -> bool
+fn is_own(asked: &PeekScope<'_>, frame: &Frame) -> bool
     requires can { CanAsk asked.now }
     requires frame { IsFrameOf asked.now.l.now.profile frame.now }
     ensures { (find : Finder) → AreVerdicts asked.now.l.now.profile asked.now.own.now find →

@@ -34,15 +34,15 @@ pub fn write_peek<R: Threads + Sync, G: Gate>(
     out: &mut Text,
 ) -> Result<(), MatchRefusal>
     ensures ok { (f : Finders) →
-        HoldsFilters survey.now.l.now survey.now.v.now survey.now.config.now f →
+        HoldsFilters survey.now.l.now survey.now.v.now survey.now.config.now.filtering f →
         OnOk result (out.new ≡ out.old ++ peek_text survey.now.l.now.profile f
         survey.now.config.now survey.now.column (facts head.now)) }
     ensures some { (f : Finders) →
-        HoldsFilters survey.now.l.now survey.now.v.now survey.now.config.now f →
+        HoldsFilters survey.now.l.now survey.now.v.now survey.now.config.now.filtering f →
         OnOk result (has_own_match survey.now.l.now.profile f survey.now.config.now
         survey.now.column ≡ true) }
     ensures none { (f : Finders) →
-        HoldsFilters survey.now.l.now survey.now.v.now survey.now.config.now f →
+        HoldsFilters survey.now.l.now survey.now.v.now survey.now.config.now.filtering f →
         IfErr result (λ e. e ≡ MatchRefusal.NoMatch →
         has_own_match survey.now.l.now.profile f survey.now.config.now
         survey.now.column ≡ false) }
@@ -82,7 +82,7 @@ fn graph_about<R: Threads + Sync, G: Gate>(
     ensures walk { IfOk result
         (CanWalk survey.now.l.now.profile survey.now.counted.now.sums) }
     ensures shows { (f : Finders) (own : Written → Bool) →
-        HoldsFilters survey.now.l.now survey.now.v.now survey.now.config.now f →
+        HoldsFilters survey.now.l.now survey.now.v.now survey.now.config.now.filtering f →
         marked.now ≡ map (λ key. own (key_written survey.now.l.now.profile key))
         survey.now.counted.now.sums.names →
         IfOk result (λ g. ShowsPairs survey.now.l.now.profile survey.now.counted.now.sums.names g

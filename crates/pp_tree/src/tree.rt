@@ -35,7 +35,8 @@ pub fn write_tree(
     requires walk { CanWalk l.now.profile c.now.sums t.now.graph }
     ensures ok { (v : Verdicts) (config : Config) (column : Option ℕ) (limit : ℕ) (f : Finders) →
         IsCountedOf l.now v config column c.now →
-        IsTrimmedOf l.now v config column limit c.now t.now → HoldsFilters l.now v config f →
+        IsTrimmedOf l.now v config column limit c.now t.now →
+        HoldsFilters l.now v config.filtering f →
         OnOk result (out.new
         ≡ out.old ++ tree_text l.now.profile f config column limit (facts head.now)) }
     ensures err { OnErr result (out.new ≡ out.old) }

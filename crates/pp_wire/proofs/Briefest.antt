@@ -55,7 +55,7 @@ one_longer more (suc k) n fewer high below =
     let less = div_below n 128 (128 ^ suc k) (omega arith) (rw (pow-suc 128 (suc k)) at below) in
     omega (arith, fewer k (n / 128) less)
 
-length_shortest : (more k n : ℕ) → n < 128 ^ suc k → length (shortest more n) ≤ suc k
+pub length_shortest : (more k n : ℕ) → n < 128 ^ suc k → length (shortest more n) ≤ suc k
 length_shortest zero k n below = rw (all_groups n) (omega arith)
 length_shortest (suc more) k n below =
     elim (cases_lt n 128) [

@@ -10,6 +10,6 @@ returns-clause-ok c = λ f holds.
     let w = c.args.survey.now in
     appended c.append.result c.append.new.self c.args.out.now c.put_account.new.out _
     (rw c.new-text.ensures at (c.in_ok-put_account.ensures f holds)
-    ∙ ap (λ d. account_lines f w.config.now d c.in_ok-nodes.nodes (facts c.args.head.now)) (c.in_ok-portions.ensures f holds)
+    ∙ ap (λ d. account_lines f w.config.now.filtering d c.in_ok-nodes.nodes (facts c.args.head.now)) (c.in_ok-portions.ensures f holds)
     ∙ text_is w.l.now.profile f w.config.now w.column (facts c.args.head.now) c.args.limit c.in_ok-nodes.nodes (c.in_ok-nodes.ensures f holds))
     c.append.ensures.ok

@@ -9,5 +9,5 @@ use Rattle.pp_account.proofs.rows.put_filter_rows.Given as goal
 
 -- the rows of the filters so far are there
 abbrev pub invariant-loop-slot : goal.invariant-loop-slot
-invariant-loop-slot l = (f : Finders) → HoldsFilters l.survey.l.now l.survey.v.now l.survey.config.now f
-    → Putting (filter_line f l.survey.config.now l.portions (facts l.head)) dropping l.initial.out l.slot-index l.out
+invariant-loop-slot l = (f : Finders) → HoldsFilters l.survey.l.now l.survey.v.now l.survey.config.now.filtering f
+    → Putting (filter_line f l.survey.config.now.filtering l.portions (facts l.head)) dropping l.initial.out l.slot-index l.out

@@ -10,7 +10,7 @@ pub returns : goal.returns
 returns c = λ f holds.
     joined_four c.put_bare_row.result c.args.out.now c.put_row.new.out c.put_filter_rows.new.out c.put_row-2.new.out c.put_bare_row.new.out
     (portion_line (facts c.args.head.now) c.args.portions.now.loaded (codes "loaded"))
-    (flat_map (filter_line f c.args.survey.now.config.now c.args.portions.now (facts c.args.head.now)) dropping)
+    (flat_map (filter_line f c.args.survey.now.config.now.filtering c.args.portions.now (facts c.args.head.now)) dropping)
     (portion_line (facts c.args.head.now) c.args.portions.now.left (codes "left"))
     (flat_map (account_line (facts c.args.head.now)) (bare_row c.args.portions.now.bare))
     c.in_ok-put_row.ensures (c.in_ok-put_filter_rows.ensures f holds) c.in_ok-put_row-2.ensures c.put_bare_row.ensures

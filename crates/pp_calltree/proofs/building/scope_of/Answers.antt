@@ -16,7 +16,7 @@ returns-clause-kept c =
     record {
       sound = record { filters = c.filters.ensures; verdicts = survey.can.verdicts; table = c.table.ensures; few_kept = tt; chosen = rising };
       countable = record {
-        fits = chosen_fits p survey.column survey.config.now.divide_by c.as_slice.result.now survey.can.countable survey.can.column rising;
+        fits = chosen_fits p survey.column survey.config.now.presentation.divide_by c.as_slice.result.now survey.can.countable survey.can.column rising;
         few = chosen_few p c.as_slice.result.now survey.can.countable rising;
       };
       all = λ f holds. kept_seen p f survey.config.now survey.column c.as_slice.result.now (is ∙ survey.counts.kept f holds);

@@ -1,6 +1,6 @@
 use Rattle.std.proofs.Common.{◌++◌, ◌∙◌, ap, sym}
 use Rattle.pp_check.specs.declared.fault.Table.TheVariants.{Locations}
-use Rattle.pp_check.specs.declared.known.Known.{Known}
+use Rattle.pp_check.specs.declared.known.IdSet.{IdSet}
 use Rattle.pp_check.specs.Finds.{rule_fault}
 use Rattle.pp_check.specs.FirstFault.{location_faults, reference_faults}
 use Rattle.pp_check.proofs.SoundLemmas.{tenth_left}
@@ -22,7 +22,7 @@ returns-in-Sound c =
 pub returns-in_err-locations : goal.returns-in_err-locations
 returns-in_err-locations c =
     let p = c.args.p.now in
-    passed_on Known (location_faults p) (reference_faults p) _ c.in_err-locations.field-0.0 c.from_residual-in_err-locations.ensures.1 c.in_err-locations.ensures.faults
+    passed_on IdSet (location_faults p) (reference_faults p) _ c.in_err-locations.field-0.0 c.from_residual-in_err-locations.ensures.1 c.in_err-locations.ensures.faults
 
 pub returns-in_err-try_references : goal.returns-in_err-try_references
 returns-in_err-try_references c =

@@ -20,7 +20,7 @@ chosen_tallies-requires-after_bounds g c = λ _ _.
 
 pub selected_sum-whole-requires-clause-fits : goal.selected_sum-whole-requires-clause-fits
 selected_sum-whole-requires-clause-fits g c =
-    values_fit c.args.survey.now.l.now.profile c.args.survey.now.column c.args.survey.now.config.now.divide_by c.args.survey.now.can.countable c.args.survey.now.can.column
+    values_fit c.args.survey.now.l.now.profile c.args.survey.now.column c.args.survey.now.config.now.presentation.divide_by c.args.survey.now.can.countable c.args.survey.now.can.column
 
 pub selected_sum-whole-requires-clause-rising : goal.selected_sum-whole-requires-clause-rising
 selected_sum-whole-requires-clause-rising g c =
@@ -51,6 +51,6 @@ returns-clause-fits g c =
     (ap (λ s. s.flat) is) (ap (λ s. s.cum) is)
     (subst (AreRisingBetween 0 (length c.args.survey.now.l.now.profile.sample))
     (sym (c.as_slice-chosen.ensures ∙ c.in_ok-list.ensures ∙ (λ i. filter (is_base_number (c.get-compact.ensures.same i)) (c.as_slice-kept.ensures i))))
-    (rising-filter (is_base_number c.args.survey.now.l.now.profile) 0 (length c.args.survey.now.l.now.profile.sample) c.args.survey.now.counted.now.kept c.args.survey.now.counts.rising)) (values_fit c.args.survey.now.l.now.profile c.args.survey.now.column c.args.survey.now.config.now.divide_by c.args.survey.now.can.countable c.args.survey.now.can.column)
+    (rising-filter (is_base_number c.args.survey.now.l.now.profile) 0 (length c.args.survey.now.l.now.profile.sample) c.args.survey.now.counted.now.kept c.args.survey.now.counts.rising)) (values_fit c.args.survey.now.l.now.profile c.args.survey.now.column c.args.survey.now.config.now.presentation.divide_by c.args.survey.now.can.countable c.args.survey.now.can.column)
     (rw whole c.selected_sum-whole.ensures.small))
     (rw c.as_slice-numbers.ensures at c.sums_at-sums.ensures)

@@ -10,7 +10,7 @@ count_all-requires-clause-sound g c = λ _ _.
 
 pub count_all-requires-clause-countable : goal.count_all-requires-clause-countable
 count_all-requires-clause-countable g c = λ _ _. record {
-  fits = chosen_fits c.args.survey.now.l.now.profile c.args.survey.now.column c.args.survey.now.config.now.divide_by c.args.chosen.now c.args.survey.now.can.countable c.args.survey.now.can.column c.requires;
+  fits = chosen_fits c.args.survey.now.l.now.profile c.args.survey.now.column c.args.survey.now.config.now.presentation.divide_by c.args.chosen.now c.args.survey.now.can.countable c.args.survey.now.can.column c.requires;
   few = chosen_few c.args.survey.now.l.now.profile c.args.chosen.now c.args.survey.now.can.countable c.requires;
 }
 

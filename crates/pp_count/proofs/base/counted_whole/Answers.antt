@@ -8,7 +8,7 @@ use Rattle.pp_count.proofs.base.counted_whole.Goals as goal
 
 pub selected_sum-requires-clause-fits : goal.selected_sum-requires-clause-fits
 selected_sum-requires-clause-fits c =
-    values_fit c.args.survey.now.l.now.profile c.args.survey.now.column c.args.survey.now.config.now.divide_by c.args.survey.now.can.countable c.args.survey.now.can.column
+    values_fit c.args.survey.now.l.now.profile c.args.survey.now.column c.args.survey.now.config.now.presentation.divide_by c.args.survey.now.can.countable c.args.survey.now.can.column
 
 pub selected_sum-requires-clause-rising : goal.selected_sum-requires-clause-rising
 selected_sum-requires-clause-rising c =
@@ -17,5 +17,5 @@ selected_sum-requires-clause-rising c =
 pub returns : goal.returns
 returns c = λ f holds.
     to_z-of_z w64 c.selected_sum.result (fits_signed_from_abs w64 c.selected_sum.result c.selected_sum.ensures.small) ∙ c.selected_sum.ensures.value
-    ∙ ap (selected_all c.args.survey.now.column c.args.survey.now.config.now.divide_by) (ap (samples_at c.args.survey.now.l.now.profile) c.as_slice-kept.ensures
-    ∙ kept_samples c.args.survey.now.l.now.profile f c.args.survey.now.config.now c.args.survey.now.counted.now.kept (c.args.survey.now.counts.kept f holds))
+    ∙ ap (selected_all c.args.survey.now.column c.args.survey.now.config.now.presentation.divide_by) (ap (samples_at c.args.survey.now.l.now.profile) c.as_slice-kept.ensures
+    ∙ kept_samples c.args.survey.now.l.now.profile f c.args.survey.now.config.now.filtering c.args.survey.now.counted.now.kept (c.args.survey.now.counts.kept f holds))

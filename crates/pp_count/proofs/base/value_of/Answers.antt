@@ -14,4 +14,4 @@ returns c =
     let read = is_read c.args.l.now.profile c.get.result.now c.as_slice-samples.result.now c.args.number c.index-samples-number.result c.as_slice-samples.ensures c.get.ensures.same c.get.ensures.valid here c.index-samples-number.is in
     let fits : SFits w64 c.selected.result = search rules in
     to_z-of_z w64 c.selected.result fits ∙ c.selected.ensures
-    ∙ ap (selected c.args.column c.args.config.now.divide_by) (sym (get_or_from_slice_get c.args.l.now.profile.sample c.args.number c.index-samples-number.result no_sample read.found))
+    ∙ ap (selected c.args.column c.args.presentation.now.divide_by) (sym (get_or_from_slice_get c.args.l.now.profile.sample c.args.number c.index-samples-number.result no_sample read.found))

@@ -15,7 +15,7 @@ count_whole-requires-clause-sound g c = λ _ _. subst IsSoundScope (sym c.whole-
 pub count_whole-requires-clause-countable : goal.count_whole-requires-clause-countable
 count_whole-requires-clause-countable g c = λ _ _. subst (λ scope. AreCountable scope (samples_in_scope scope)) (sym c.whole-scope.ensures)
     (record {
-      fits = values_fit c.args.l.now.profile c.args.column c.args.config.now.divide_by c.requires.countable c.requires.column;
+      fits = values_fit c.args.l.now.profile c.args.column c.args.config.now.presentation.divide_by c.requires.countable c.requires.column;
       few = c.requires.countable.samples;
     })
 
@@ -28,7 +28,7 @@ returns-in-Ok g c =
       kept = all.counted.kept;
       sums_are = keyed.sums;
       matches = all.matched refl;
-      total_is = subst (λ scope. (f : Finders) → HoldsFilters scope.l.now scope.v.now scope.config.now f → c.in-Ok.whole.total ≡ total_of scope.l.now.profile f scope.config.now scope.column) c.whole-scope.ensures c.in-Ok.ensures.total;
+      total_is = subst (λ scope. (f : Finders) → HoldsFilters scope.l.now scope.v.now scope.config.now.filtering f → c.in-Ok.whole.total ≡ total_of scope.l.now.profile f scope.config.now scope.column) c.whole-scope.ensures c.in-Ok.ensures.total;
       fits = keyed.fits;
       of_profile = keyed.of_profile;
       rising = subst (λ n. AreRisingBetween 0 n c.in-Ok.whole.sofar.kept) (omega arith) all.counted.rising;

@@ -15,4 +15,4 @@ returns-in-Ok-clause-total g c = λ f holds.
     let all : samples_in_scope scope ≡ p.sample = all_samples scope (λ i. option_map (λ numbers. numbers.now) (c.requires.whole i)) in
     c.total-total.ensures
     ∙ total_is p f config scope.column totals (subst (λ ss. size_of scope ss < 2 ^ 63) all c.requires.countable.fits)
-    (subst (λ ss. AreTotals p config scope.column (samples_of_total p f config ss) totals) all (c.in_ok-sofar.ensures.totals c.requires.whole f holds))
+    (subst (λ ss. AreTotals p config.presentation scope.column (samples_of_total p f config ss) totals) all (c.in_ok-sofar.ensures.totals c.requires.whole f holds))

@@ -5,14 +5,14 @@ use Rattle.pp_count.proofs.laws.verdicts_are_found.Goals as goal
 
 -- the patterns that find what the verdicts say
 pub returns : goal.returns
-returns c = λ l v config column valid compact can fit.
+returns c = λ l v filtering column valid compact can fit.
     let p = l.profile in
     let focus : TagFinders = parts_of p v.tag v.tagfocus in
     let ignore : TagFinders = parts_of p v.tag v.tagignore in (
       finders_found l v focus ignore,
       record {
         found = some_finders l v focus ignore compact.texts can.verdicts;
-        tagfocus = some_parts p compact.texts valid v.tag (filter_in_force config.tagfocus) v.tagfocus can.focus fit.focus;
-        tagignore = some_parts p compact.texts valid v.tag (filter_in_force config.tagignore) v.tagignore can.ignore fit.ignore;
+        tagfocus = some_parts p compact.texts valid v.tag (filter_in_force filtering.tagfocus) v.tagfocus can.focus fit.focus;
+        tagignore = some_parts p compact.texts valid v.tag (filter_in_force filtering.tagignore) v.tagignore can.ignore fit.ignore;
       },
     )

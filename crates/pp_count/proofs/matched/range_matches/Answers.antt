@@ -25,7 +25,7 @@ pub returns-in_ok-found-in-None : goal.returns-in_ok-found-in-None
 returns-in_ok-found-in-None c = λ none f holds.
     let p = c.args.scope.now.l.now.profile in
     c.in_ok-found-in-None.ensures f holds
-    ∙ ap (λ n. matches_among p f c.args.scope.now.config.now (take n (drop c.args.first c.as_slice-samples.result.now))) (omega arith)
-    ∙ ap (λ samples. matches_among p f c.args.scope.now.config.now (take c.args.count (drop c.args.first samples)))
+    ∙ ap (λ n. matches_among p f c.args.scope.now.config.now.filtering (take n (drop c.args.first c.as_slice-samples.result.now))) (omega arith)
+    ∙ ap (λ samples. matches_among p f c.args.scope.now.config.now.filtering (take c.args.count (drop c.args.first samples)))
     (c.as_slice-samples.ensures ∙ ap (λ q. q.sample) c.get.ensures.same
     ∙ sym (all_samples c.args.scope.now (λ i. option_map (λ numbers. numbers.now) (none i))))

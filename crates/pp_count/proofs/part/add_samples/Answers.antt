@@ -21,7 +21,7 @@ loop-index-init c = (
 
 pub totals_of-requires-clause-left : goal.totals_of-requires-clause-left
 totals_of-requires-clause-left c = λ f holds.
-    some_is c.args.scope.now (filtered_stack c.args.scope.now.l.now.profile f c.args.scope.now.config.now c.sample_at-sample.result.now) c.in_ok-left.left
+    some_is c.args.scope.now (filtered_stack c.args.scope.now.l.now.profile f c.args.scope.now.config.now.filtering c.sample_at-sample.result.now) c.in_ok-left.left
     (map (name_of c.args.scope.now) c.see.new.keys.items) (c.in_ok-left.ensures.seen f holds)
 
 pub add_seen-requires-clause-cum_fits : goal.add_seen-requires-clause-cum_fits

@@ -15,7 +15,7 @@ count_piece_of-part-requires-clause-sound c = subst IsSoundScope (sym c.whole-sc
 pub count_piece_of-part-requires-clause-countable : goal.count_piece_of-part-requires-clause-countable
 count_piece_of-part-requires-clause-countable c = subst (λ scope. AreCountable scope (samples_in_scope scope)) (sym c.whole-scope.ensures)
     (record {
-      fits = values_fit c.args.l.now.profile c.args.column c.args.config.now.divide_by c.requires.can.countable c.requires.can.column;
+      fits = values_fit c.args.l.now.profile c.args.column c.args.config.now.presentation.divide_by c.requires.can.countable c.requires.can.column;
       few = c.requires.can.countable.samples;
     })
 

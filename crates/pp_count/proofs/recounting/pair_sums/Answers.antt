@@ -24,7 +24,7 @@ count_all-requires-clause-countable g c = λ _ _.
     let rising : AreRisingBetween 0 (length c.args.survey.now.l.now.profile.sample) c.as_slice-kept.result.now =
     subst (AreRisingBetween 0 (length c.args.survey.now.l.now.profile.sample)) (sym c.as_slice-kept.ensures) c.args.survey.now.counts.rising in
     record {
-      fits = chosen_fits c.args.survey.now.l.now.profile c.args.survey.now.column c.args.survey.now.config.now.divide_by c.as_slice-kept.result.now c.args.survey.now.can.countable c.args.survey.now.can.column rising;
+      fits = chosen_fits c.args.survey.now.l.now.profile c.args.survey.now.column c.args.survey.now.config.now.presentation.divide_by c.as_slice-kept.result.now c.args.survey.now.can.countable c.args.survey.now.can.column rising;
       few = chosen_few c.args.survey.now.l.now.profile c.as_slice-kept.result.now c.args.survey.now.can.countable rising;
     }
 

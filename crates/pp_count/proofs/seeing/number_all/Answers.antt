@@ -7,7 +7,7 @@ use Rattle.pp_count.proofs.Located.{located_none, located_more, located_all}
 use Rattle.pp_count.proofs.seeing.number_all.Goals as goal
 
 pub loop-id-init : goal.loop-id-init
-loop-id-init c = located_none c.args.scope.now.l.now.profile c.args.scope.now.config.now c.args.scope.now.table.now c.as_slice-id-items.result.now c.args.keys.now.items c.requires.none
+loop-id-init c = located_none c.args.scope.now.l.now.profile c.args.scope.now.grouping c.args.scope.now.table.now c.as_slice-id-items.result.now c.args.keys.now.items c.requires.none
 
 pub overflow_sub-id : goal.overflow_sub-id
 overflow_sub-id c =
@@ -28,7 +28,7 @@ loop-id-preserved c =
     let p = c.args.scope.now.l.now.profile in
     let compact : IsCompact p = subst IsCompact c.get-compact.ensures.same c.get-compact.ensures.compact in
     rw c.in_ok-add_to.ensures
-    (located_more p c.args.scope.now.config.now c.args.scope.now.table.now c.as_slice-id-items.result.now c.loop-id.id-index c.loop-id.keys.items
+    (located_more p c.args.scope.now.grouping c.args.scope.now.table.now c.as_slice-id-items.result.now c.loop-id.id-index c.loop-id.keys.items
     _ c.requires.table c.loop-id-test.true
     (omega (
       arith,
@@ -40,6 +40,6 @@ loop-id-preserved c =
 pub returns-clause-named : goal.returns-clause-named
 returns-clause-named c =
     let p = c.args.scope.now.l.now.profile in
-    let config = c.args.scope.now.config.now in
-    located_all p config c.args.scope.now.table.now c.as_slice-id-items.result.now c.loop-id.id-index c.loop-id.keys.items c.requires.all c.loop-id-test.false c.loop-id.invariant
-    ∙ ap (λ ids. keys_of_stack p config (frames_from p 0 ids)) c.as_slice-id-items.ensures
+    let grouping = c.args.scope.now.grouping in
+    located_all p grouping c.args.scope.now.table.now c.as_slice-id-items.result.now c.loop-id.id-index c.loop-id.keys.items c.requires.all c.loop-id-test.false c.loop-id.invariant
+    ∙ ap (λ ids. keys_of_stack p grouping (frames_from p 0 ids)) c.as_slice-id-items.ensures

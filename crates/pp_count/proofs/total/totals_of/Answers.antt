@@ -10,8 +10,8 @@ returns-in-None c = λ none f holds.
     let config = c.args.scope.now.config.now in
     let column = c.args.scope.now.column in
     let s = c.args.s.now in
-    subst (λ r. AreTotals p config column (cond r (filtered_samples p f config (s ∷ [])) (s ∷ [])) c.totals_if.result) (sym c.if-scope.true)
-    (subst (λ b. AreTotals p config column (cond b (s ∷ []) []) c.totals_if.result) (sym (c.requires.left f holds)) c.totals_if.ensures)
+    subst (λ r. AreTotals p config.presentation column (cond r (filtered_samples p f config.filtering (s ∷ [])) (s ∷ [])) c.totals_if.result) (sym c.if-scope.true)
+    (subst (λ b. AreTotals p config.presentation column (cond b (s ∷ []) []) c.totals_if.result) (sym (c.requires.left f holds)) c.totals_if.ensures)
 
 -- it counts always
 pub returns-in-None-2 : goal.returns-in-None-2
@@ -20,4 +20,4 @@ returns-in-None-2 c = λ none f holds.
     let config = c.args.scope.now.config.now in
     let column = c.args.scope.now.column in
     let s = c.args.s.now in
-    subst (λ r. AreTotals p config column (cond r (filtered_samples p f config (s ∷ [])) (s ∷ [])) c.sample_totals.result) (sym c.if-scope.false) c.sample_totals.ensures
+    subst (λ r. AreTotals p config.presentation column (cond r (filtered_samples p f config.filtering (s ∷ [])) (s ∷ [])) c.sample_totals.result) (sym c.if-scope.false) c.sample_totals.ensures

@@ -34,24 +34,24 @@ merge_alone_on-requires g c =
 
 -- what was cut is merged alone
 pub returns-clause-saved : goal.returns-clause-saved
-returns-clause-saved g c f config holds kept =
+returns-clause-saved g c f filtering holds kept =
     let is = c.in_ok-cut.ensures in
     c.in_ok-q.ensures ∙ ap (λ (p : Profile). merged p []) is.is
     ∙ ap written
-    (contents_saved c.args.l.now c.args.v.now f config c.as_slice.result.now is.samples is.locations is.valid holds.found (c.as_slice.ensures ∙ kept) is.adds)
+    (contents_saved c.args.l.now c.args.v.now f filtering c.as_slice.result.now is.samples is.locations is.valid holds.found (c.as_slice.ensures ∙ kept) is.adds)
 
 -- so it keeps the stacks that the filters leave
 pub returns-clause-stacks : goal.returns-clause-stacks
-returns-clause-stacks g c f config holds kept again =
+returns-clause-stacks g c f filtering holds kept again =
     let is = c.in_ok-cut.ensures in
     let p = c.args.l.now.profile in
     let cut = with_cut p is.samples is.locations in
     let starts = starts_of p is.samples is.locations is.starts in
-    let same : contents cut [] ≡ saved_contents p f config =
-    contents_saved c.args.l.now c.args.v.now f config c.as_slice.result.now is.samples is.locations is.valid holds.found (c.as_slice.ensures ∙ kept) is.adds in
-    let saved_is : c.in_ok-q.q ≡ saved p f config = c.in_ok-q.ensures ∙ ap (λ (q : Profile). merged q []) is.is ∙ ap written same in
-    subst (KeepsStacks p f config) (sym saved_is)
-    (keeps_stacks p f config is.valid starts again (subst IsSettled same (settled_contents cut [] starts)))
+    let same : contents cut [] ≡ saved_contents p f filtering =
+    contents_saved c.args.l.now c.args.v.now f filtering c.as_slice.result.now is.samples is.locations is.valid holds.found (c.as_slice.ensures ∙ kept) is.adds in
+    let saved_is : c.in_ok-q.q ≡ saved p f filtering = c.in_ok-q.ensures ∙ ap (λ (q : Profile). merged q []) is.is ∙ ap written same in
+    subst (KeepsStacks p f filtering) (sym saved_is)
+    (keeps_stacks p f filtering is.valid starts again (subst IsSettled same (settled_contents cut [] starts)))
 
 -- and what is merged alone stays as it is
 pub returns-clause-again : goal.returns-clause-again
@@ -72,8 +72,8 @@ returns-clause-sums g c f config holds kept again =
     let q = c.in_ok-q.q in
     let compact : IsCompact q = alone_compact c.in_ok-cut.cut q c.in_ok-q.ensures in
     let valid : NoRuleFails q = alone_valid c.in_ok-cut.cut q c.in_ok-q.ensures in
-    keeps_sums c.args.l.now.profile f config q (returns-clause-stacks g c f config holds kept again)
-    (λ d tagfocus tagignore. whole_left q compact.locations d tagfocus tagignore valid)
+    keeps_sums c.args.l.now.profile f config q (returns-clause-stacks g c f config.filtering holds kept again)
+    (λ d tagfocus tagignore. whole_left q compact.locations d.filtering tagfocus tagignore valid)
 
 -- and where no value is below 0 the keys that occur
 pub returns-clause-keys : goal.returns-clause-keys
@@ -85,14 +85,14 @@ returns-clause-keys g c f config holds kept again =
     let valid : NoRuleFails q = alone_valid c.in_ok-cut.cut q c.in_ok-q.ensures in
     let cut = with_cut p is.samples is.locations in
     let starts = starts_of p is.samples is.locations is.starts in
-    let same : contents cut [] ≡ saved_contents p f config =
-    contents_saved c.args.l.now c.args.v.now f config c.as_slice.result.now is.samples is.locations is.valid holds.found (c.as_slice.ensures ∙ kept) is.adds in
-    let saved_is : q ≡ saved p f config = returns-clause-saved g c f config holds kept in
+    let same : contents cut [] ≡ saved_contents p f config.filtering =
+    contents_saved c.args.l.now c.args.v.now f config.filtering c.as_slice.result.now is.samples is.locations is.valid holds.found (c.as_slice.ensures ∙ kept) is.adds in
+    let saved_is : q ≡ saved p f config.filtering = returns-clause-saved g c f config.filtering holds kept in
     subst (KeepsKeys p f config) (sym saved_is)
     (λ least d alike column within.
-    keeps_keys column p f config is.valid within least (subst IsSettled same (settled_contents cut [] starts)) (left_is p f config is.valid starts again)
+    keeps_keys column p f config is.valid within least (subst IsSettled same (settled_contents cut [] starts)) (left_is p f config.filtering is.valid starts again)
     (subst (KeepsSums p f config) saved_is (returns-clause-sums g c f config holds kept again))
-    (λ e tagfocus tagignore. whole_left (saved p f config) (subst IsCompact saved_is compact).locations e tagfocus tagignore (subst NoRuleFails saved_is valid))
+    (λ e tagfocus tagignore. whole_left (saved p f config.filtering) (subst IsCompact saved_is compact).locations e.filtering tagfocus tagignore (subst NoRuleFails saved_is valid))
     d alike)
 
 -- the header is that of what was cut, so the columns are those of the profile

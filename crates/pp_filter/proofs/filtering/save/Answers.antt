@@ -7,4 +7,4 @@ saved_profile-requires-clause-kept g c = λ _ _.
 
 -- so just these are saved
 pub returns : goal.returns
-returns g c f holds = c.saved_profile.ensures.saved f c.args.config.now holds (c.in_ok-counted.ensures.kept f holds)
+returns g c f holds = c.saved_profile.ensures.saved f c.args.config.now.filtering holds (c.in_ok-counted.ensures.kept f holds)

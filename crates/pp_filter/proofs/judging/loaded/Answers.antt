@@ -4,7 +4,7 @@ use Rattle.std.specs.Option.{ForSome}
 use Rattle.pp_model.proofs.LoadedLemmas.{same_loaded}
 use Rattle.pp_model.specs.Judged.{judged_fits}
 use Rattle.pp_pattern.specs.Load.{load_verdicts, drop_finder, keep_finder}
-use Rattle.pp_filter.specs.Asked.{loaded_or}
+use Rattle.pp_filter.specs.Asked.{loaded_or_refused}
 use Rattle.pp_filter.proofs.judging.loaded.Goals as goal
 
 -- there are as many verdicts as texts
@@ -22,4 +22,4 @@ pub returns-in-Ok-clause-is : goal.returns-in-Ok-clause-is
 returns-in-Ok-clause-is g c =
     let own : (c.in-Ok.drop, c.in-Ok.keep) ≡ load_verdicts g.D.Desk.finds c.args.profile = rw c.in-Ok.is at c.requires in
     ap (λ l. Ok (Ok l)) (same_loaded _ _ refl (ap (λ v. v.0) own) (ap (λ v. v.1) own))
-    ∙ sym (ap (λ answer. Ok (loaded_or g.D.Desk.finds c.args.profile answer)) c.in-Ok.is)
+    ∙ sym (ap (λ answer. Ok (loaded_or_refused g.D.Desk.finds c.args.profile answer)) c.in-Ok.is)

@@ -1,5 +1,5 @@
 use Rattle.std.proofs.Common.{◌≡◌, ℕ, nat_abs, sym, ap, ◌∙◌}
-use Rattle.pp_model.specs.declared.config.Sort.{Sort}
+use Rattle.pp_model.specs.declared.presentation.Sort.{Sort}
 use Rattle.pp_count.specs.declared.sums.Sums.{Sums}
 use Rattle.pp_graph.specs.Ranks.{major, minor, sum_of_name}
 use Rattle.pp_graph.proofs.Collecting.{written_is}

@@ -13,8 +13,8 @@ pub kept-requires : goal.kept-requires
 kept-requires g c =
     rw (c.len.ensures.len, c.as_slice.ensures) (c.in_ok-ranked.ensures c.args.survey.now.v.now c.args.survey.now.column c.args.survey.now.counts).below
 
-pub edges-requires-after_bounds : goal.edges-requires-after_bounds
-edges-requires-after_bounds g c κs within =
+pub recount-requires-after_bounds : goal.recount-requires-after_bounds
+recount-requires-after_bounds g c κs within =
     ap length c.in_ok-keep.ensures ∙ length-flags c.len.result c.as_slice.result.now ∙ c.len.ensures.len
 
 pub returns : goal.returns
@@ -25,5 +25,5 @@ returns g c =
     (c.in_ok-keep.ensures ∙ (λ i. kept_flags (c.len.ensures.len i) (c.as_slice.ensures i))) (c.in_ok-edges.ensures.edges f h))
     c.cut_light-dropped_edges.ensures.linked
     (nodes_same c.args.survey.now.counted.now.sums c.in_ok-graph.graph c.cut_light-dropped_edges.new.graph c.cut_light-dropped_edges.ensures.nodes c.in_ok-graph.ensures.nodes)
-    (c.cut_light-dropped_edges.ensures.live ∙ ap (filter (is_heavy_edge c.args.survey.now.counted.now.total c.args.survey.now.config.now.edgefraction.billionths)) c.in_ok-graph.ensures.live)
-    (c.cut_light-dropped_edges.ensures.cut ∙ ap (λ (es : List Edge). length (filter (is_light_edge c.args.survey.now.counted.now.total c.args.survey.now.config.now.edgefraction.billionths) es)) c.in_ok-graph.ensures.live)
+    (c.cut_light-dropped_edges.ensures.live ∙ ap (filter (is_heavy_edge c.args.survey.now.counted.now.total c.args.survey.now.config.now.presentation.edgefraction.billionths)) c.in_ok-graph.ensures.live)
+    (c.cut_light-dropped_edges.ensures.cut ∙ ap (λ (es : List Edge). length (filter (is_light_edge c.args.survey.now.counted.now.total c.args.survey.now.config.now.presentation.edgefraction.billionths) es)) c.in_ok-graph.ensures.live)

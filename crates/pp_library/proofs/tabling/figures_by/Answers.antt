@@ -58,6 +58,6 @@ returns-clause-edges g c = λ f holds.
     let ranked = c.in_ok-ranked.ensures s.v.now s.column s.counts in
     let keys = ap (written_order p s.counted.now.sums.names) c.as_slice-2.ensures ∙ ranked.keys f holds ∙ (λ i. first_report_keys p f config s.column (c.limit_of-limit.ensures i)) in
     IfOk-weaker c.with_rows.result _ _
-    (λ figures e. subst (AreRowEdges samples (first_report_keys p f config s.column (node_limit config.nodecount 0))) (sym e)
+    (λ figures e. subst (AreRowEdges samples (first_report_keys p f config s.column (node_limit config.presentation.nodecount 0))) (sym e)
     (subst (λ (ks : List Written). AreRowEdges samples ks c.in_ok-edges.edges) keys (c.in_ok-edges.ensures f holds)))
     c.with_rows.ensures.edges

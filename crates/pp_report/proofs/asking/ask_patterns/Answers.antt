@@ -12,7 +12,7 @@ use Rattle.pp_report.proofs.asking.ask_patterns.Goals as goal
 pub returns-in-Ok-clause-went : goal.returns-in-Ok-clause-went
 unfolding ask_patterns
 returns-in-Ok-clause-went g c =
-    let script = judge g.D.Desk.finds c.args.config.now (own_pattern c.args.report.now) c.args.l.now.profile in
+    let script = judge g.D.Desk.finds c.args.filtering.now (own_pattern c.args.report.now) c.args.l.now.profile in
     let old = g.D.Desk.world c.args.desk.now in
     let new = g.D.Desk.world c.judge.new.desk in
     let went : Went old new script (Ok c.in_ok-verdicts.field-0) = rw (← c.own_pattern.ensures) c.in_ok-verdicts.ensures.went in

@@ -1,6 +1,6 @@
 use Rattle.std.proofs.Common.{◌≡◌, ap, ◌∙◌}
 use Rattle.pp_model.specs.declared.profile.Profile.{Profile}
-use Rattle.pp_compare.specs.Changes.{changes_text}
+use Rattle.pp_top.specs.Changes.{changes_text}
 use Rattle.pp_report.specs.Heads.{unit_text}
 use Rattle.pp_report.proofs.FinishingLemmas.{made_text}
 use Rattle.pp_report.proofs.comparing.changes.Goals as goal

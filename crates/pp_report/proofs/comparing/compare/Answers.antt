@@ -1,6 +1,6 @@
 use Rattle.std.proofs.Common.{ap, ◌∙◌}
 use Rattle.pp_units.specs.Head.{facts}
-use Rattle.pp_compare.specs.Compare.{compare_text}
+use Rattle.pp_top.specs.Compare.{compare_text}
 use Rattle.pp_report.proofs.FinishingLemmas.{made_text}
 use Rattle.pp_report.proofs.comparing.compare.Goals as goal
 

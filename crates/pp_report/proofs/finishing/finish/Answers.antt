@@ -31,7 +31,7 @@ returns-clause-went g c =
     let over = c.basis-over.result.now in
     let own = counts_over finds l report config c.args.prepared c.requires over c.basis-over.ensures c.in-Some.counts c.in-Some.is in
     finish_over finds l report config c.args.prepared c.requires over c.basis-over.ensures c.args.prepared.base _ _ (sym c.lacks_base.ensures ∙ c.if-lacks_base.false)
-    c.finish_by-text.result (c.finish_by-text.ensures.went (report_finders finds over report config) own.holds)
+    c.finish_by-text.result (c.finish_by-text.ensures.went (report_finders finds over report config.filtering) own.holds)
 
 -- what was saved is what the report's own patterns leave of it
 pub returns-clause-saved : goal.returns-clause-saved
@@ -42,6 +42,6 @@ returns-clause-saved g c proto =
     let config = c.args.config.now in
     let over = c.basis-over.result.now in
     let own = counts_over finds l report config c.args.prepared c.requires over c.basis-over.ensures c.in-Some.counts c.in-Some.is in
-    subst (λ (q : Loaded). OnText c.finish_by-text.result (IsProtoBy finds q config)) (over_basis finds l report config c.args.prepared c.requires over c.basis-over.ensures)
-    (subst (λ (r : Report). OnText c.finish_by-text.result (IsProtoOf over.profile (report_finders finds over r config) config)) proto
-    (c.finish_by-text.ensures.saved (report_finders finds over report config) own.holds proto))
+    subst (λ (q : Loaded). OnText c.finish_by-text.result (IsProtoBy finds q config.filtering)) (over_basis finds l report config c.args.prepared c.requires over c.basis-over.ensures)
+    (subst (λ (r : Report). OnText c.finish_by-text.result (IsProtoOf over.profile (report_finders finds over r config.filtering) config.filtering)) proto
+    (c.finish_by-text.ensures.saved (report_finders finds over report config.filtering) own.holds proto))

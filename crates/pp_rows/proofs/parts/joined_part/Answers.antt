@@ -28,13 +28,13 @@ pieces_within size samples =
 pub join_parts-requires : goal.join_parts-requires
 join_parts-requires c =
     let samples = c.args.l.now.profile.sample in
-    let size : Sample → ℕ = λ s. nat_abs (selected c.args.column c.args.config.now.divide_by s) in
+    let size : Sample → ℕ = λ s. nat_abs (selected c.args.column c.args.config.now.presentation.divide_by s) in
     let whole : length (piece_of samples 0) ≡ 1024 = length-take-le 1024 samples (omega (arith, c.requires.pieces)) in
     let begins : 1024 * 1 ≡ 0 + length (piece_of samples 0) = omega (arith, whole) in
     let second = subst (λ (n : ℕ). IsRangePart c.args.l.now c.args.v.now c.args.config.now c.args.column c.args.table.now.names n (piece_of samples 1) c.in_ok-second.second)
     begins c.in_ok-second.ensures in
     let all : sum_by size samples < 2 ^ 63 =
-    values_fit c.args.l.now.profile c.args.column c.args.config.now.divide_by c.requires.can.countable c.requires.can.column in
+    values_fit c.args.l.now.profile c.args.column c.args.config.now.presentation.divide_by c.requires.can.countable c.requires.can.column in
     let fits : sum_by size (piece_of samples 0 ++ (piece_of samples 1 ++ [])) < 2 ^ 63 = omega (arith, pieces_within size samples, all) in
     rw (c.in_ok-push-2.ensures.ok, c.in_ok-push.ensures.ok, c.new-parts.ensures)
     (can_join c.args.l.now c.args.v.now c.args.config.now c.args.column c.args.table.now.names (piece_of samples 0 ∷ piece_of samples 1 ∷ [])

@@ -17,6 +17,6 @@ returns-clause-keys c f finds events is small =
     let labels = c.as_slice.ensures ∙ c.in_ok-show_tags_into.ensures f finds.found in
     let are =
     (λ i. map (label_event (c.get.ensures.same i) (value i) c.args.turn) (labels i))
-    ∙ labels_are p (selected survey.column survey.config.now.divide_by c.args.s.now) c.args.turn (shown_labels p f c.args.s.now.label) in
+    ∙ labels_are p (selected survey.column survey.config.now.presentation.divide_by c.args.s.now) c.args.turn (shown_labels p f c.args.s.now.label) in
     subst (λ (es : List Event). OnOk c.count_labels.result (AreKeys (events ++ es) c.count_labels.new.counts.keys)) are
     (c.count_labels.ensures.keys events is (subst (λ (es : List Event). AreSmall (events ++ es)) (sym are) small))

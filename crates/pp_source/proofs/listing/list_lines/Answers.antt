@@ -11,7 +11,7 @@ use Rattle.pp_source.proofs.listing.list_lines.Goals as goal
 -- a read was stopped
 pub returns-in-Err : goal.returns-in-Err
 returns-in-Err g c samples of =
-    lines_stop c.args.listing.now.survey.now.config.now samples (facts c.args.listing.now.head.now) (lines_texts c.args.lines.now) c.as_slice.result.now c.in_ok-files.files.keys c.as_slice.ensures.keys c.in_ok-files.ensures _ _ _
+    lines_stop c.args.listing.now.survey.now.config.now.environment samples (facts c.args.listing.now.head.now) (lines_texts c.args.lines.now) c.as_slice.result.now c.in_ok-files.files.keys c.as_slice.ensures.keys c.in_ok-files.ensures _ _ _
     c.in-Err.ensures
 
 -- memory was wanting for the text
@@ -19,13 +19,13 @@ pub returns-in_err-text-in-Ok : goal.returns-in_err-text-in-Ok
 returns-in_err-text-in-Ok g c samples of =
     let p = err_from_is_err_and c.from_residual-in_err-text-in-Ok.result c.from_residual-in_err-text-in-Ok.ensures.1 in
     rw (p.1, p.2)
-    (lines_want c.args.listing.now.survey.now.config.now samples (facts c.args.listing.now.head.now) (lines_texts c.args.lines.now) c.as_slice.result.now c.in_ok-files.files.keys c.as_slice.ensures.keys c.in_ok-files.ensures _ _
+    (lines_want c.args.listing.now.survey.now.config.now.environment samples (facts c.args.listing.now.head.now) (lines_texts c.args.lines.now) c.as_slice.result.now c.in_ok-files.files.keys c.as_slice.ensures.keys c.in_ok-files.ensures _ _
     c.in-Ok.sources c.in-Ok.ensures)
 
 -- the report is whole
 pub returns-in_ok-text-in-Ok : goal.returns-in_ok-text-in-Ok
 returns-in_ok-text-in-Ok g c samples of =
-    lines_go c.args.listing.now.survey.now.config.now samples (facts c.args.listing.now.head.now) (lines_texts c.args.lines.now) c.as_slice.result.now c.in_ok-files.files.keys c.as_slice.ensures.keys c.in_ok-files.ensures _ _
+    lines_go c.args.listing.now.survey.now.config.now.environment samples (facts c.args.listing.now.head.now) (lines_texts c.args.lines.now) c.as_slice.result.now c.in_ok-files.files.keys c.as_slice.ensures.keys c.in_ok-files.ensures _ _
     c.in-Ok.sources c.in_ok-text-in-Ok.field-0 c.in-Ok.ensures
     (c.in_ok-text-in-Ok.ensures samples of
     ∙ ap (λ ss. lines_text samples (facts c.args.listing.now.head.now) (source_at (map told c.in_ok-files.files.keys) ss) (lines_texts c.args.lines.now)) c.as_slice-in-Ok.ensures)

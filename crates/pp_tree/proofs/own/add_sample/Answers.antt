@@ -34,7 +34,7 @@ pub returns-clause-found : goal.returns-clause-found
 returns-clause-found c = λ f find holds verdicts.
     let there = rw (c.as_slice-samples.ensures, c.get.ensures.same) at c.in-Some.ensures.lookup in
     found_as c.add_stack.result (holds_key c.args.asked.now.l.now.profile c.add_stack.new.keys.keys) (holds_key c.args.asked.now.l.now.profile c.args.keys.now.keys)
-    (λ k. has_own_frame c.args.asked.now.l.now.profile c.args.asked.now.config.now find k c.filter_into.new.stack) (λ k. has_own_number c.args.asked.now.l.now.profile f c.args.asked.now.config.now c.args.asked.now.column find k c.args.number)
+    (λ k. has_own_frame c.args.asked.now.l.now.profile c.args.asked.now.config.now.grouping find k c.filter_into.new.stack) (λ k. has_own_number c.args.asked.now.l.now.profile f c.args.asked.now.config.now c.args.asked.now.column find k c.args.number)
     (asked c.args.asked.now.l.now.profile f c.args.asked.now.config.now c.args.asked.now.column find c.args.number c.in-Some.sample.now (looked_up c.args.asked.now.l.now.profile.sample c.args.number c.in-Some.sample.now there.0 there.1)
     c.filter_into.new.stack (sym (c.in_ok-filter_into.ensures.places f holds) ∙ ap (λ b. kept_if b c.filter_into.new.stack) c.if-not-branch.false) (λ e. c.if-selected-eq0.false (ap (of_z w64) (c.selected.ensures ∙ e))))
     (c.add_stack.ensures.found find verdicts)

@@ -5,13 +5,13 @@ use Rattle.pp_calltree.proofs.WalkLemmas.{walks_over}
 use Rattle.pp_calltree.proofs.tree.CallTree.build.Goals as goal
 
 pub returns-clause-tree : goal.returns-clause-tree
-returns-clause-tree c = c.in_ok-tree.ensures c.args.l.now c.args.v.now c.args.config.now c.args.column c.in_ok-gathered.ensures.same
+returns-clause-tree c = c.in_ok-tree.ensures c.args.survey.now.l.now c.args.survey.now.v.now c.args.survey.now.config.now c.args.survey.now.column c.in_ok-gathered.ensures.same
 
 pub returns-clause-walk : goal.returns-clause-walk
 returns-clause-walk c = λ f holds.
-    let samples = path_samples c.args.l.now.profile f c.args.config.now c.args.column in
-    walks_over c.args.l.now.profile _ (all_lengths samples) samples ((c.in_ok-tree.ensures c.args.l.now c.args.v.now c.args.config.now c.args.column c.in_ok-gathered.ensures.same).rows f holds)
+    let samples = path_samples c.args.survey.now.l.now.profile f c.args.survey.now.config.now c.args.survey.now.column in
+    walks_over c.args.survey.now.l.now.profile _ (all_lengths samples) samples ((c.in_ok-tree.ensures c.args.survey.now.l.now c.args.survey.now.v.now c.args.survey.now.config.now c.args.survey.now.column c.in_ok-gathered.ensures.same).rows f holds)
 
 pub returns-clause-flats : goal.returns-clause-flats
 returns-clause-flats c = λ f holds.
-    flats_are c.args.l.now.profile c.args.c.now.sums _ (report_samples c.args.l.now.profile f c.args.config.now c.args.column) ((c.in_ok-tree.ensures c.args.l.now c.args.v.now c.args.config.now c.args.column c.in_ok-gathered.ensures.same).rows f holds) (c.requires.counted.sums_are f holds)
+    flats_are c.args.survey.now.l.now.profile c.args.survey.now.counted.now.sums _ (report_samples c.args.survey.now.l.now.profile f c.args.survey.now.config.now c.args.survey.now.column) ((c.in_ok-tree.ensures c.args.survey.now.l.now c.args.survey.now.v.now c.args.survey.now.config.now c.args.survey.now.column c.in_ok-gathered.ensures.same).rows f holds) (c.args.survey.now.counts.sums_are f holds)

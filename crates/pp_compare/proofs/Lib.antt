@@ -1,6 +1,0 @@
-mod Putting
-mod Parting
-mod Fitting
-mod Naming
-mod Ranking
-mod Examples

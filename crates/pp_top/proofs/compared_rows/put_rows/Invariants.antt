@@ -1,0 +1,11 @@
+use Rattle.pp_units.specs.Shown.{shown}
+use Rattle.pp_top.specs.Compare.{difference_line}
+use Rattle.pp_top.specs.ComparedRows.{compared_at}
+use Rattle.pp_top.proofs.Putting.{Putting}
+use Rattle.pp_top.proofs.compared_rows.put_rows.Given as goal
+
+-- the rows so far have their lines
+abbrev pub invariant-loop-number : goal.invariant-loop-number
+invariant-loop-number l =
+    Putting (λ n. difference_line (shown l.table.head.now.unit) (compared_at l.table.l.now.profile l.table.sort l.table.sums.now l.table.base.now n))
+    l.order l.initial.out l.number-index l.out
