@@ -13,8 +13,8 @@ pub kept-requires : goal.kept-requires
 kept-requires g c =
     rw (c.len.ensures.len, c.as_slice.ensures) (c.in_ok-ranked.ensures c.args.survey.now.v.now c.args.survey.now.column c.args.survey.now.counts).below
 
-pub edges-requires-after_bounds : goal.edges-requires-after_bounds
-edges-requires-after_bounds g c κs within =
+pub recount-requires-after_bounds : goal.recount-requires-after_bounds
+recount-requires-after_bounds g c κs within =
     ap length c.in_ok-keep.ensures ∙ length-flags c.len.result c.as_slice.result.now ∙ c.len.ensures.len
 
 pub returns : goal.returns

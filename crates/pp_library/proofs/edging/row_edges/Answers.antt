@@ -12,8 +12,8 @@ use Rattle.pp_library.proofs.PlaceLemmas.{are_row_edges}
 use Rattle.pp_library.proofs.edging.row_edges.Goals as goal
 
 -- each name is kept or not
-pub edges-requires-after_bounds : goal.edges-requires-after_bounds
-edges-requires-after_bounds g c κs within =
+pub recount-requires-after_bounds : goal.recount-requires-after_bounds
+recount-requires-after_bounds g c κs within =
     ap length c.in_ok-keep.ensures ∙ length-flags c.len-names.result c.args.order.now ∙ c.len-names.ensures.len
 
 -- the edges of the names are those between their rows
