@@ -3,7 +3,7 @@
 
 It finds links and anchors that lead nowhere; files and names in backticks that are not in the repository; functions that a
 table places in another file; crates whose row differs from crates.txt; clauses that their crate does not have; names that
-a file takes from a module in which they do not stand; edits whose text does not stand once in its file; transcripts that are
+a file takes from a module in which they do not stand, or from a module that its crate keeps to itself; edits whose text does not stand once in its file; transcripts that are
 not run, or whose stored counts are wrong; and counts in the documents that are not those of the repository.
 
 The status is 1 where something is wrong, else 0.
@@ -182,12 +182,22 @@ def exported(crate, folder, module):
     return set(re.findall(r"\w+", text)).union(*(exported(*it) or set() for it in PASSED_ON.findall(text)))
 
 
+@functools.cache
+def is_open(crate, folder, module):
+    """Whether other crates may name the module."""
+    first = module.split(".")[0]
+    lib = CRATES / crate / folder / "Lib.antt"
+    return first == "declared" or lib.exists() and re.search(rf"^pub mod {first}$", lib.read_text(), re.M) is not None
+
+
 def imports():
     """Each name that a file takes from a module of this repository, with what is wrong with it."""
     for path in sorted([*CRATES.glob("*/src/**/*.rt"), *CRATES.glob("*/[sp]*/**/*.antt")]):
         for crate, folder, module, names_taken in IMPORT.findall(path.read_text()):
             if not (CRATES / crate).is_dir() or exported(crate, folder, module) is None:
                 continue
+            if path.relative_to(CRATES).parts[0] != crate and not is_open(crate, folder, module):
+                yield f"{path.relative_to(CRATES)}: {crate}.{folder}.{module} is closed to other crates"
             for name in re.findall(r"(?<![\w◌])(\w+)(?: as \S+)?(?=\s*(?:,|$))", names_taken.strip()):
                 is_there = name in exported(crate, folder, module)
                 yield None if is_there else f"{path.relative_to(CRATES)}: {crate}.{folder}.{module} has no {name}"

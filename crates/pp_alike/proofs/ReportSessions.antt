@@ -1,14 +1,14 @@
 -- How a session ends that loads a profile and makes a report of it, where the matcher refuses no pattern.
 use Rattle.std.proofs.Common.{◌≡◌, ℕ, Bool, true, false, List, [], ◌∷◌, ◌++◌, length, refl, sym, ap, subst, ◌∙◌}
 use Rattle.std.proofs.Math.Seq.{drop-nil}
-use Rattle.std.specs.Prelude.{Option, Some, None, Result, Ok, Err, if◌then◌else◌}
+use Rattle.std.specs.Prelude.{Option, Some, Result, Ok, Err, if◌then◌else◌}
 use Rattle.std.proofs.lemmas.Bool.{false≢true}
 use Rattle.std.proofs.lemmas.List.Concat.{flat_map-append}
 use Rattle.pp_base.specs.FileMap.{FileMap, content_at, with_file, among}
 use Rattle.pp_base.specs.Judges.{Answer}
 use Rattle.pp_desk.specs.declared.input_line.InputLine.{InputLine}
 use Rattle.pp_desk.specs.Course.{Course, course, does, asks}
-use Rattle.pp_desk.specs.Effects.{Effect, ToOut, ToErr, ToFile, FromFile, outside, Did, out_of, err_of, outs, errs, files_after}
+use Rattle.pp_desk.specs.Effects.{Effect, ToOut, ToErr, ToFile, FromFile, out_of, err_of, outs, errs, files_after}
 use Rattle.pp_desk.specs.Lines.{next_of, after_next}
 use Rattle.pp_desk.specs.Script.{Script, Give, Make, WriteOut, WriteErr, ReadFile, WriteFile, Ask, NextLine, ◌>>=◌}
 use Rattle.pp_desk.specs.Went.{content_within}
@@ -65,12 +65,6 @@ looks_same (Make (ReadFile path limit) p) files locked others lines more o =
 looks_same (Make (WriteFile path bytes) p) files locked others lines more o = absurd (false≢true o.0)
 looks_same (Make (Ask pattern) p) files locked others lines more o = ap (asks pattern) (looks_same (p true) files locked others lines more (o.1 true))
 looks_same (Make NextLine p) files locked others lines more o = absurd (false≢true o.0)
-
--- ---- the files after effects
-
--- effects on the files alone
-on_files : (files : Option FileMap) (es : List Effect) → Did (outside None None files None) (outside None None (files_after files es) None) es
-on_files files es = record { out = refl; err = refl; files = refl; reads = refl }
 
 -- ---- the end of a session
 

@@ -9,7 +9,6 @@ use Rattle.pp_base.proofs.Lists.{all_by}
 use Rattle.pp_base.specs.FileMap.{FileMap, content_at}
 use Rattle.pp_base.specs.Judges.{Answer}
 use Rattle.pp_desk.specs.declared.file_content.FileContent.{FileContent}
-use Rattle.pp_desk.specs.declared.file_content.FileContent.TheVariants as contents
 use Rattle.pp_desk.specs.declared.input_line.InputLine.{InputLine}
 use Rattle.pp_desk.specs.Asking as asking
 use Rattle.pp_desk.specs.Asking.{Asking}

@@ -4,7 +4,7 @@ use Rattle.std.specs.Prelude.{nat_lt, All, Contains}
 use Rattle.std.specs.List.{list_any, AllByRecursion}
 use Rattle.std.specs.List.Sorted.{IsSorted, IsPermutation}
 use Rattle.std.specs.Cmp.{IsTotalOrder, nat_cmp_total, on_total, then_total, alike_right, tied_itself, Equal-is, ranks}
-use Rattle.std.specs.Ordering.{is_eq, is_lt, is_gt, nat_cmp, ordering_then, ordering_reverse, MatchOrdering}
+use Rattle.std.specs.Ordering.{is_eq, is_lt, nat_cmp, ordering_then, ordering_reverse, MatchOrdering}
 use Rattle.std.specs.declared.cmp.Ordering.{Ordering}
 use Rattle.std.specs.declared.cmp.Ordering.TheVariants.{Less, Equal, Greater}
 use Rattle.std.proofs.lemmas.Bool.{cases_lt, eqb-true, eq-eqb, ltb-true, ltb-false}
@@ -12,13 +12,14 @@ use Rattle.std.proofs.lemmas.List.{get_or_default, get_or-map}
 use Rattle.std.proofs.lemmas.List.Elements.{All-append, All-push, All-contains, All-weaker}
 use Rattle.std.proofs.lemmas.List.Folds.{list_any-append}
 use Rattle.std.proofs.lemmas.List.Sorted.{ranks_by, sorted_far, All-permutation, list_any-IsPermutation}
+use Rattle.pp_base.proofs.Orders.{both_equal}
 use Rattle.pp_model.specs.declared.profile.Sample.{Sample}
 use Rattle.pp_model.specs.Values.{no_sample}
 use Rattle.pp_share.specs.declared.repeats.Placed.{Placed}
 use Rattle.pp_share.specs.declared.repeats.Repeat.{Repeat}
 use Rattle.pp_share.specs.Hashes.{hash_by}
 use Rattle.pp_share.specs.Renumbered.{NewIds, renumbered_sample}
-use Rattle.pp_share.specs.Repeats.{class_of, is_later, stack_at, AreEqual, IsFirst, IsPair, IsRepeat, FindsOfClass, FindsBelow, IsLeast, BeginsKind, IsRepeated, FindsRepeats, IsPlaced, ArePlaced}
+use Rattle.pp_share.specs.Repeats.{class_of, is_later, stack_at, AreEqual, IsFirst, IsPair, IsRepeat, FindsOfClass, FindsBelow, IsLeast, BeginsKind, IsRepeated, FindsRepeats, IsOfClass, AreOfClass}
 use Rattle.pp_share.specs.SampleKeys.{sample_stack}
 use Rattle.pp_share.specs.SampleStacks.{same_stack, stack_hash, stack_decides}
 use Rattle.pp_share.specs.StackOrder.{hash_cmp, stack_cmp, hash_stack_cmp, placed_cmp}
@@ -185,28 +186,18 @@ found_moved order placed index repeats now moved found = record {
 
 -- What is found among the samples of a class.
 module _ (by : NewIds) (samples : List Sample) (hashes : List ℕ) (class : ℕ) (hashed : hashes ≡ map (hash_by by) samples) where
-  own_stack : (x : Placed) → IsPlaced hashes samples class x → sample_stack (renumbered_sample by x.sample.now) ≡ stack_at by samples x.place
+  own_stack : (x : Placed) → IsOfClass hashes samples class x → sample_stack (renumbered_sample by x.sample.now) ≡ stack_at by samples x.place
   own_stack x is = ap (λ (s : Sample). sample_stack (renumbered_sample by s)) is.sample
 
   hash_at : (k : ℕ) → k < length samples → get_or hashes k 0 ≡ stack_hash (stack_at by samples k)
   hash_at k within = ap (λ l. get_or l k 0) hashed ∙ get_or-map (hash_by by) samples k no_sample 0 within
 
-  first_level : (a b : Ordering) → ordering_then a b ≡ Equal → a ≡ Equal
-  first_level Less b is = absurd (true≢false (ap is_lt is))
-  first_level Equal b is = refl
-  first_level Greater b is = absurd (true≢false (ap is_gt is))
-
-  second_level : (a b : Ordering) → ordering_then a b ≡ Equal → b ≡ Equal
-  second_level Less b is = absurd (true≢false (ap is_lt is))
-  second_level Equal b is = is
-  second_level Greater b is = absurd (true≢false (ap is_gt is))
-
-  alike : (x y : Placed) → IsPlaced hashes samples class x → IsPlaced hashes samples class y → hash_stack_cmp by x y ≡ Equal → same_stack (stack_at by samples x.place) (stack_at by samples y.place) ≡ true
+  alike : (x y : Placed) → IsOfClass hashes samples class x → IsOfClass hashes samples class y → hash_stack_cmp by x y ≡ Equal → same_stack (stack_at by samples x.place) (stack_at by samples y.place) ≡ true
   alike x y is_x is_y level =
       (λ j. same_stack (sym (own_stack x is_x) j) (sym (own_stack y is_y) j)) ∙ stack_ties by x.sample.now y.sample.now
-      ∙ ap is_eq (second_level (nat_cmp x.hash y.hash) (stack_cmp by x.sample.now y.sample.now) level)
+      ∙ ap is_eq (both_equal (hash_cmp x y) (stack_cmp by x.sample.now y.sample.now) level).1
 
-  of_kind : (x y : Placed) → IsPlaced hashes samples class x → IsPlaced hashes samples class y → same_stack (stack_at by samples x.place) (stack_at by samples y.place) ≡ true → hash_stack_cmp by x y ≡ Equal
+  of_kind : (x y : Placed) → IsOfClass hashes samples class x → IsOfClass hashes samples class y → same_stack (stack_at by samples x.place) (stack_at by samples y.place) ≡ true → hash_stack_cmp by x y ≡ Equal
   of_kind x y is_x is_y same =
       let equal = (stack_decides (stack_at by samples x.place) (stack_at by samples y.place)).0 same in
       let hash : x.hash ≡ y.hash = is_x.hash ∙ hash_at x.place is_x.within ∙ ap stack_hash equal ∙ sym (hash_at y.place is_y.within) ∙ sym is_y.hash in
@@ -215,15 +206,15 @@ module _ (by : NewIds) (samples : List Sample) (hashes : List ℕ) (class : ℕ)
       (sym (stack_ties by x.sample.now y.sample.now) ∙ (λ j. same_stack (own_stack x is_x j) (own_stack y is_y j)) ∙ same) in
       (λ j. ordering_then ((ap (λ h. nat_cmp h y.hash) hash ∙ tied_itself nat_cmp_total y.hash) j) (level j))
 
-  module _ (first placed : List Placed) (are : ArePlaced hashes samples class (length samples) first) (moved : IsPermutation first placed) where
-    all_placed : All (IsPlaced hashes samples class) placed
-    all_placed = All-permutation (IsPlaced hashes samples class) first placed moved are.are
+  module _ (first placed : List Placed) (are : AreOfClass hashes samples class (length samples) first) (moved : IsPermutation first placed) where
+    all_placed : All (IsOfClass hashes samples class) placed
+    all_placed = All-permutation (IsOfClass hashes samples class) first placed moved are.are
 
     stands : (k : ℕ) → k < length samples → class_of (get_or hashes k 0) ≡ class → list_any (λ (one : Placed). one.place == k) placed ≡ true
     stands k within of_class = sym (list_any-IsPermutation (λ (one : Placed). one.place == k) first placed moved) ∙ are.whole k within of_class
 
     -- what has the least place of its kind is the first of its kind
-    is_first : (y : Placed) → IsPlaced hashes samples class y → IsLeast (hash_stack_cmp by) placed y → IsFirst by samples y.place
+    is_first : (y : Placed) → IsOfClass hashes samples class y → IsLeast (hash_stack_cmp by) placed y → IsFirst by samples y.place
     is_first y is_y least = λ k below. cases k below (same_stack (stack_at by samples k) (stack_at by samples y.place)) refl
       where
         cases : (k : ℕ) → k < y.place → (b : Bool) → same_stack (stack_at by samples k) (stack_at by samples y.place) ≡ b → b ≡ false
@@ -233,13 +224,13 @@ module _ (by : NewIds) (samples : List Sample) (hashes : List ℕ) (class : ℕ)
             let equal = (stack_decides (stack_at by samples k) (stack_at by samples y.place)).0 same in
             let hash : get_or hashes k 0 ≡ y.hash = hash_at k within ∙ ap stack_hash equal ∙ sym (hash_at y.place is_y.within) ∙ sym is_y.hash in
             let (x, here, (is_x, lowest)) =
-            some_item (λ (one : Placed). one.place == k) (λ (one : Placed). IsPlaced hashes samples class one × (hash_stack_cmp by one y ≡ Equal → y.place ≤ one.place)) placed
+            some_item (λ (one : Placed). one.place == k) (λ (one : Placed). IsOfClass hashes samples class one × (hash_stack_cmp by one y ≡ Equal → y.place ≤ one.place)) placed
             (by_recursion _ placed (λ i d inside. (all_placed i d inside, least i d inside))) (stands k within (ap class_of hash ∙ is_y.of_class)) in
             let at : x.place ≡ k = eqb-true x.place k here in
             absurd (omega (arith, below, at, lowest (of_kind x y is_x is_y (ap (λ i. same_stack (stack_at by samples i) (stack_at by samples y.place)) at ∙ same))))
 
-    is_one : (one : Placed) → Contains placed one → IsPlaced hashes samples class one
-    is_one one has = All-contains (IsPlaced hashes samples class) placed one all_placed has
+    is_one : (one : Placed) → Contains placed one → IsOfClass hashes samples class one
+    is_one one has = All-contains (IsOfClass hashes samples class) placed one all_placed has
 
     is_repeat : (r : Repeat) → IsRepeated (hash_stack_cmp by) placed r → IsRepeat by samples r
     is_repeat r is = record {
@@ -257,7 +248,7 @@ module _ (by : NewIds) (samples : List Sample) (hashes : List ℕ) (class : ℕ)
       others = λ place within of_class not_later.
           let (x, here, (is_x, least)) =
           some_item (λ (one : Placed). one.place == place)
-          (λ (one : Placed). IsPlaced hashes samples class one × (is_later repeats one.place ≡ false → IsLeast (hash_stack_cmp by) placed one)) placed
+          (λ (one : Placed). IsOfClass hashes samples class one × (is_later repeats one.place ≡ false → IsLeast (hash_stack_cmp by) placed one)) placed
           (by_recursion _ placed (λ i d inside. (all_placed i d inside, found.others i d inside))) (stands place within (ap class_of (hash_at place within) ∙ of_class)) in
           let at : x.place ≡ place = eqb-true x.place place here in
           subst (IsFirst by samples) at (is_first x is_x (least (ap (is_later repeats) at ∙ not_later)));
@@ -266,7 +257,7 @@ module _ (by : NewIds) (samples : List Sample) (hashes : List ℕ) (class : ℕ)
     -- what has the least place among those of its hash has it among those of its kind
     least_too : (one : Placed) → IsLeast hash_cmp placed one → IsLeast (hash_stack_cmp by) placed one
     least_too one least k d within level =
-        least k d within (first_level (hash_cmp (get_or placed k d) one) (stack_cmp by (get_or placed k d).sample.now one.sample.now) level)
+        least k d within (both_equal (hash_cmp (get_or placed k d) one) (stack_cmp by (get_or placed k d).sample.now one.sample.now) level).0
 
     -- what is found by hashes alone
     module _ (repeats : List Repeat) (found : FindsRepeats hash_cmp placed (length placed) repeats) where

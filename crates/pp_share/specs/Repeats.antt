@@ -87,15 +87,15 @@ module _ (order : Placed → Placed → Ordering) where
         → IsLeast placed (slice_index_or placed k d)
 
 -- the sample with its place and its hash, which is of the class
-pub record IsPlaced (hashes : List ℕ) (samples : List Sample) (class : ℕ) (one : Placed) : Type 0 where
+pub record IsOfClass (hashes : List ℕ) (samples : List Sample) (class : ℕ) (one : Placed) : Type 0 where
   pub within : one.place < length samples
   pub sample : one.sample.now ≡ slice_index_or samples one.place no_sample
   pub hash : one.hash ≡ slice_index_or hashes one.place 0
   pub of_class : class_of one.hash ≡ class
 
 -- those of the class, of the samples before the place
-pub record ArePlaced (hashes : List ℕ) (samples : List Sample) (class place : ℕ) (placed : List Placed) : Type 0 where
-  pub are : All (IsPlaced hashes samples class) placed
+pub record AreOfClass (hashes : List ℕ) (samples : List Sample) (class place : ℕ) (placed : List Placed) : Type 0 where
+  pub are : All (IsOfClass hashes samples class) placed
   pub whole : (k : ℕ) → k < place → class_of (slice_index_or hashes k 0) ≡ class → list_any (λ one. one.place == k) placed ≡ true
 
 -- two places of n, one before the other

@@ -6,7 +6,7 @@ ghost use Rattle.std.specs.List.Sorted.{IsSorted, IsPermutation};
 ghost use Rattle.pp_share.specs.Hashes.{hash_by};
 ghost use Rattle.pp_share.specs.Renumbered.{new_ids};
 ghost use Rattle.pp_share.specs.StackOrder.{kind_cmp, placed_cmp};
-ghost use Rattle.pp_share.specs.Repeats.{class_of, AreEqual, ArePlaced, BeginsKind, FindsBelow, FindsOfClass, FindsRepeats, IsPair};
+ghost use Rattle.pp_share.specs.Repeats.{class_of, AreEqual, AreOfClass, BeginsKind, FindsBelow, FindsOfClass, FindsRepeats, IsPair};
 
 use crate::renumbering::Renumbering;
 use crate::stack_order::stack_order;
@@ -152,7 +152,7 @@ fn of_class<'a>(
     class: u32,
 ) -> Result<Vec<Placed<'a>>, Memory>
     requires { length hashes.now ≡ length samples.now }
-    ensures { IfOk result (λ placed. ArePlaced hashes.now samples.now class (length samples.now) placed.items) }
+    ensures { IfOk result (λ placed. AreOfClass hashes.now samples.now class (length samples.now) placed.items) }
 {
     // Hashes are spread evenly, so a class has about an eighth of them.
     let mut placed = Vec::with_capacity(alloc, samples.len() / 7)?;
@@ -179,7 +179,7 @@ enum KindBy<'a> {
     Stack(&'a Renumbering),
 }
 
-// Sorts the samples. The answer are those that follow one of their kind, in the order of their places.
+// Sorts the samples, and gives those that follow one of their kind, in the order of their places.
 fn sort_out(alloc: Global, kind: &KindBy, placed: &mut Vec<Placed>) -> Result<Vec<Repeat>, Memory>
     ensures same { IsPermutation placed.old.items placed.new.items }
     ensures found { IfOk result (λ repeats.

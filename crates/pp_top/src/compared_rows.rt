@@ -8,7 +8,7 @@ ghost use Rattle.pp_grain.specs.Naming.{name_text};
 ghost use Rattle.pp_count.specs.Counted.{FitSums};
 ghost use Rattle.pp_count.specs.Base.{FitBase};
 ghost use Rattle.pp_graph.specs.Ranks.{sum_of_name};
-ghost use Rattle.pp_top.specs.Compare.{difference_columns, difference_line};
+ghost use Rattle.pp_top.specs.Compare.{difference_line};
 ghost use Rattle.pp_top.specs.ComparedRows.{figures_at, compared_at};
 
 use crate::columns::put_columns;

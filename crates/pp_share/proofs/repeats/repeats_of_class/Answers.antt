@@ -1,9 +1,8 @@
-use Rattle.std.proofs.Common.{List, length, sym, subst}
+use Rattle.std.proofs.Common.{length, sym, subst}
 use Rattle.std.specs.Prelude.{All}
 use Rattle.std.proofs.lemmas.Bool.{OnTrue_at}
 use Rattle.std.proofs.lemmas.List.Sorted.{IsPermutation-trans}
 use Rattle.std.proofs.lemmas.Result.{IfOk-weaker}
-use Rattle.pp_share.specs.declared.repeats.Repeat.{Repeat}
 use Rattle.pp_share.specs.Renumbered.{new_ids}
 use Rattle.pp_share.specs.Repeats.{AreEqual, IsPair}
 use Rattle.pp_share.proofs.RepeatLemmas.{class_found, equal_found, pairs_found}
