@@ -25,13 +25,13 @@ use Rattle.pp_count.specs.Sums.{Seen}
 use Rattle.pp_count.proofs.EachOnce.{each_once_is}
 use Rattle.pp_samples.specs.declared.key_table.TagKeyTable.{TagKeyTable}
 use Rattle.pp_samples.specs.declared.tag_lines.TagLine.{TagLine}
-use Rattle.pp_samples.specs.TagLines.{TagTexts, bytes_cmp, shown_tag_cmp, same_tag, has_label_key, all_tags, all_keys, key_sum, key_size, tag_sum, line_cmp, key_tags, value_line}
+use Rattle.pp_samples.specs.TagLines.{TagTexts, bytes_cmp, same_tag, has_label_key, all_tags, all_keys, key_sum, key_size, tag_sum, line_cmp, key_tags, value_line}
 use Rattle.pp_samples.specs.Names.{name_texts, key_tag}
 use Rattle.pp_samples.specs.Tables.{Event, AreKeys, key_event, events_of_key, events_from}
 use Rattle.pp_samples.specs.Ranked.{RankedTag, line_entry, line_key, event_entry, table_tags, entry_cmp, line_key_cmp, entry_line, IsKeyLine}
 use Rattle.pp_samples.proofs.TagNamesLemmas.{tag_decides}
 use Rattle.pp_samples.proofs.EventSums.{tag_sums, key_sums, key_sizes, key_same, tags_are}
-use Rattle.pp_samples.proofs.Ranking.{tag_cmp_total, tag_cmp_ties, bytes_cmp_ties, tag_symm, tags_apart, place_at, at_all, sorted_as}
+use Rattle.pp_samples.proofs.Ranking.{tag_cmp_total, tag_cmp_ties, bytes_cmp_ties, tag_symm, tags_apart, place_at, at_all, values_decide, sorted_as}
 
 -- what is among items is among them once each is left
 module _ {K : Type 0} (same : K → K → Bool) (decides : (x y : K) → Decides (same x y) (x ≡ y)) (x : K) where
@@ -81,7 +81,7 @@ module _ (P : RankedTag → Type 0) (before lines : List TagLine) (entries : Lis
 
 -- the tag of a line
 abbrev pub line_tag : TagLine → TagTexts
-line_tag line = name_texts line.name.now
+line_tag line = name_texts line.name
 
 map_same : {A : Type 0} (xs : List A) → map (λ x. x) xs ≡ xs
 map_same [] = refl
@@ -128,10 +128,20 @@ module _ (samples : List (Seen TagTexts)) where
         all_mapped HasTagSum (event_entry own) (table_tags own)
         (λ k d h. tag_sums samples key (get_or (table_tags own) k d) (at_all (λ t. has_label_key key t ≡ true) (table_tags own) k d table_keyed h))
 
+    -- The entry's tag is one of the key's.
+    abbrev HasKey : RankedTag → Type 0
+    HasKey e = has_label_key key e.tag ≡ true
+
+    entries_keyed : All HasKey (map (event_entry own) (table_tags own))
+    entries_keyed = all_mapped HasKey (event_entry own) (table_tags own) (λ k d h. at_all (λ t. has_label_key key t ≡ true) (table_tags own) k d table_keyed h)
+
     module _ (before lines : List TagLine) (are : map line_entry before ≡ map (event_entry own) (table_tags own)) (moved : IsPermutation before lines)
         (sorted : IsSortedBy (λ a b. is_lt (entry_cmp (line_entry a) (line_entry b))) lines) where
       pub lines_sums : All (λ line. HasTagSum (line_entry line)) lines
       lines_sums = all_lines HasTagSum before lines _ are moved entries_sums
+
+      lines_keyed : All (λ line. HasKey (line_entry line)) lines
+      lines_keyed = all_lines HasKey before lines _ are moved entries_keyed
 
       before_tags : map line_tag before ≡ table_tags own
       before_tags = sym (map-map (λ e. e.tag) line_entry before) ∙ ap (map (λ e. e.tag)) are ∙ map-map (λ e. e.tag) (event_entry own) (table_tags own) ∙ map_same (table_tags own)
@@ -142,8 +152,9 @@ module _ (samples : List (Seen TagTexts)) where
       pub tags_listed : key_tags samples key ≡ map line_tag lines
       tags_listed =
           each_once_is line_total line_ties same_tag tag_decides (filter (has_label_key key) (all_tags samples)) (map line_tag lines)
-          (sorted_as line_tag (λ line. HasTagSum (line_entry line)) (line_cmp samples) (λ a b. entry_cmp (line_entry a) (line_entry b))
-          (λ a b x y. λ i. ordering_then (nat_cmp (nat_abs (sym y i)) (nat_abs (sym x i))) (shown_tag_cmp (line_tag a) (line_tag b))) lines lines_sums sorted)
+          (sorted_as line_tag (λ line. HasTagSum (line_entry line) × HasKey (line_entry line)) (line_cmp samples) (λ a b. entry_cmp (line_entry a) (line_entry b))
+          (λ a b x y. λ i. ordering_then (nat_cmp (nat_abs (sym y.0 i)) (nat_abs (sym x.0 i))) (values_decide key (line_tag a) (line_tag b) x.1 y.1 i)) lines
+          (λ k d h. (lines_sums k d h, lines_keyed k d h)) sorted)
           (IsDistinct-IsPermutation same_tag tag_symm (map line_tag before) (map line_tag lines) moved_tags (subst (IsDistinct same_tag) (sym before_tags) (tags_apart own)))
           (λ t. ap (list_any (same_tag t)) (sym own_tags) ∙ sym (any_distinct same_tag tag_decides t (map (λ e. e.tag) own)) ∙ ap (list_any (same_tag t)) (sym before_tags)
           ∙ list_any-IsPermutation (same_tag t) (map line_tag before) (map line_tag lines) moved_tags)

@@ -2,24 +2,26 @@
 use Rattle.std.proofs.Common.{◌≡◌, ℕ, ◌+◌, ◌<◌, zero, suc, Bool, true, false, cond, not, nat_abs, List, [], ◌∷◌, ◌++◌, map, length, take, get_or, slice_index_or, All, refl, sym, ap, subst, ◌∙◌, append_assoc, arith}
 use Rattle.std.specs.List.{flat_map, AllByRecursion, IsDistinct}
 use Rattle.std.specs.List.Sorted.{IsSorted, IsSortedBy}
-use Rattle.std.specs.Ordering.{bool_cmp, is_lt}
+use Rattle.std.specs.Ordering.{bool_cmp, int_cmp, ordering_then, is_lt}
 use Rattle.std.specs.Prelude.{slice_get, Some}
 use Rattle.std.proofs.lemmas.Option.{get_or_from_slice_get}
-use Rattle.std.specs.Cmp.{IsTotalOrder, IsEquivalence, bool_cmp_total}
+use Rattle.std.specs.Cmp.{IsTotalOrder, IsEquivalence, bool_cmp_total, tied_itself}
 use Rattle.std.specs.declared.cmp.Ordering.{Ordering}
-use Rattle.std.specs.declared.cmp.Ordering.TheVariants.{Equal}
+use Rattle.std.specs.declared.cmp.Ordering.TheVariants.{Less, Equal, Greater}
 use Rattle.std.specs.FinMap as finite
 use Rattle.std.specs.FinMap.{nat_cmp-IsAntisymmetric, int_cmp-IsAntisymmetric, slice_cmp-IsAntisymmetric}
 use Rattle.std.proofs.lemmas.Cmp.{on_total, then_total, back_total, int_cmp_total, nat_list_cmp_total, nat_cmp_total}
 use Rattle.std.proofs.lemmas.List.{append-nil, take_more, length-map, get_or_default}
 use Rattle.std.proofs.lemmas.Grind.{flat_map-append}
 use Rattle.std.proofs.lemmas.List.Elements.{All-get_or}
+use Rattle.std.proofs.lemmas.Slice.Eq.{bytes_eq-Decides}
 use Rattle.pp_base.proofs.Booleans.{same_bool}
 use Rattle.pp_base.proofs.Orders.{both_equal}
 use Rattle.pp_model.specs.FirstSight.{place_of}
 use Rattle.pp_model.proofs.FirstSightLemmas.{distinct_apart}
 use Rattle.pp_samples.specs.declared.tag_table.TagSum.{TagSum}
-use Rattle.pp_samples.specs.TagLines.{TagTexts, bytes_cmp, shown_tag_cmp, same_tag}
+use Rattle.pp_samples.specs.TagLines.{TagTexts, bytes_cmp, shown_tag_cmp, same_tag, has_label_key}
+use Rattle.pp_samples.specs.Names.{tag_value_cmp}
 use Rattle.pp_samples.specs.Tables.{Event, IsTable, no_tag_sum, sum_of, events_with}
 use Rattle.pp_samples.specs.Ranked.{RankedTag, no_tag, table_tags, event_entry, entry_cmp}
 use Rattle.pp_samples.proofs.TagNamesLemmas.{tag_decides}
@@ -63,9 +65,35 @@ tag_cmp_ties a b tie =
       kinds true false e = let no : ⊥ = cc in absurd no
       kinds false true e = let no : ⊥ = cc in absurd no
 
--- entries are ordered by their sums and tags
+pub tag_value_total : IsTotalOrder tag_value_cmp
+tag_value_total =
+    then_total (on_total (λ (t : TagTexts). t.is_number) bool_cmp_total)
+    (then_total (on_total (λ (t : TagTexts). t.text) nat_list_cmp_total)
+    (then_total (on_total (λ (t : TagTexts). t.num) int_cmp_total) (on_total (λ (t : TagTexts). t.unit) nat_list_cmp_total)))
+
+nested : (kinds texts numbers units : Ordering)
+    → ordering_then (ordering_then (ordering_then kinds texts) numbers) units ≡ ordering_then kinds (ordering_then texts (ordering_then numbers units))
+nested Less texts numbers units = refl
+nested Greater texts numbers units = refl
+nested Equal Less numbers units = refl
+nested Equal Greater numbers units = refl
+nested Equal Equal numbers units = refl
+
+-- tags of one key are ordered by their values
+pub values_decide : (key : List ℕ) (a b : TagTexts) → has_label_key key a ≡ true → has_label_key key b ≡ true → shown_tag_cmp a b ≡ tag_value_cmp a b
+values_decide key a b left right =
+    let same : a.key ≡ b.key = sym ((bytes_eq-Decides key a.key).0 left) ∙ (bytes_eq-Decides key b.key).0 right in
+    let tie : bytes_cmp a.key b.key ≡ Equal = subst (λ (k : List ℕ). bytes_cmp a.key k ≡ Equal) same (tied_itself nat_list_cmp_total a.key) in
+    let kinds = bool_cmp a.is_number b.is_number in
+    let texts = bytes_cmp a.text b.text in
+    let numbers = int_cmp a.num b.num in
+    let units = bytes_cmp a.unit b.unit in
+    ap (λ (keys : Ordering). ordering_then (ordering_then (ordering_then (ordering_then keys kinds) texts) numbers) units) tie
+    ∙ nested kinds texts numbers units
+
+-- entries are ordered by their sums and values
 pub entry_total : IsTotalOrder entry_cmp
-entry_total = then_total (back_total (on_total (λ (e : RankedTag). nat_abs e.sum.sum) nat_cmp_total)) (on_total (λ (e : RankedTag). e.tag) tag_cmp_total)
+entry_total = then_total (back_total (on_total (λ (e : RankedTag). nat_abs e.sum.sum) nat_cmp_total)) (on_total (λ (e : RankedTag). e.tag) tag_value_total)
 
 pub bytes_cmp_ties : finite.IsAntisymmetric bytes_cmp
 bytes_cmp_ties a b tie = slice_cmp-IsAntisymmetric nat_cmp-IsAntisymmetric a b tie

@@ -8,8 +8,8 @@ use Rattle.pp_count.specs.Sums.{Seen}
 use Rattle.pp_samples.specs.declared.tag_table.TagSum.{TagSum}
 use Rattle.pp_samples.specs.declared.tag_table.TagTable.{TagTable}
 use Rattle.pp_samples.specs.declared.tag_lines.TagLine.{TagLine}
-use Rattle.pp_samples.specs.TagLines.{TagTexts, same_tag, bytes_cmp, shown_tag_cmp, value_line, key_sum, key_size}
-use Rattle.pp_samples.specs.Names.{name_texts, key_tag}
+use Rattle.pp_samples.specs.TagLines.{TagTexts, same_tag, bytes_cmp, value_line, key_sum, key_size}
+use Rattle.pp_samples.specs.Names.{name_texts, key_tag, tag_value_cmp}
 use Rattle.pp_samples.specs.Tables.{Event, IsTableOf, sum_of, events_with, events_of_key, events_from}
 
 -- A tag with its sum, and its number in its table.
@@ -20,11 +20,11 @@ pub record RankedTag : Type 0 where
 
 -- what the line says
 abbrev pub line_entry : TagLine → RankedTag
-line_entry line = record { tag = name_texts line.name.now; sum = line.sum; number = line.number }
+line_entry line = record { tag = name_texts line.name; sum = line.sum; number = line.number }
 
 -- the key of the line
 abbrev pub line_key : TagLine → List ℕ
-line_key line = line.name.now.key.items
+line_key line = line.name.key.now
 
 -- the empty tag, for where there is none
 abbrev pub no_tag : TagTexts
@@ -49,7 +49,7 @@ line_key_cmp a b = bytes_cmp (line_key a) (line_key b)
 -- the greater absolute sum first, then by value
 abbrev pub entry_cmp : RankedTag → RankedTag → Ordering
 entry_cmp a b =
-    ordering_then (nat_cmp (nat_abs b.sum.sum) (nat_abs a.sum.sum)) (shown_tag_cmp a.tag b.tag)
+    ordering_then (nat_cmp (nat_abs b.sum.sum) (nat_abs a.sum.sum)) (tag_value_cmp a.tag b.tag)
 
 -- the line of a tag, of a key of this size
 abbrev pub entry_line : Shown → ℕ → RankedTag → List ℕ

@@ -12,11 +12,11 @@ use std::alloc::Global;
 
 /// Keys with their sums, and by a key's number the table of its tags.
 #[derive(Drop)]
-pub struct TagKeyTable {
+pub struct TagKeyTable<'a> {
     /// The keys of labels, by number.
-    pub keys: TagTable,
+    pub keys: TagTable<'a>,
     /// By a key's number, its tags.
-    pub tags: Vec<TagTable>,
+    pub tags: Vec<TagTable<'a>>,
 }
 
 /// Where a tag stands.
@@ -29,7 +29,7 @@ pub struct TagPlace {
 }
 
 /// A table without keys.
-pub fn no_keys(alloc: Global, hash_keys: HashKeys) -> Result<TagKeyTable, Memory>
+pub fn no_keys<'a>(alloc: Global, hash_keys: HashKeys) -> Result<TagKeyTable<'a>, Memory>
     ensures even { IfOk result AreEven }
     ensures keys { IfOk result (λ keys. AreKeys [] keys) }
 {
@@ -41,20 +41,20 @@ pub fn no_keys(alloc: Global, hash_keys: HashKeys) -> Result<TagKeyTable, Memory
 
 /// Adds the value of the sample of this turn to the sums of the tag and of its key, to each once. Gives the tag's
 /// place. Known tags keep theirs.
-pub fn add_label(
+pub fn add_label<'a>(
     alloc: Global,
-    keys: &mut TagKeyTable,
-    key: TagName,
-    tag: TagName,
+    keys: &mut TagKeyTable<'a>,
+    key: TagName<'a>,
+    tag: TagName<'a>,
     value: i64,
     turn: u64,
 ) -> Result<TagPlace, Memory>
     requires same { name_texts key ≡ key_tag (name_texts tag).key }
     requires even { AreEven keys.old }
     ensures even { OnOk result (AreEven keys.new) }
-    ensures place { IfOk result (HasTagPlace keys.new (name_texts tag)) }
+    ensures place { IfOk result (HasTagPlace keys.new (name_texts tag.entry)) }
     ensures kept { OnOk result (KeepsTagPlaces keys.old keys.new) }
-    ensures keys { (events : List Event) → (e : Event) → e.tag ≡ name_texts tag → e.value ≡ value →
+    ensures keys { (events : List Event) → (e : Event) → e.tag ≡ name_texts tag.entry → e.value ≡ value →
         e.turn ≡ turn → AreKeys events keys.old → AreSmall (events ++ e ∷ []) →
         OnOk result (AreKeys (events ++ e ∷ []) keys.new) }
 {
@@ -66,7 +66,7 @@ pub fn add_label(
 }
 
 /// Adds the value of the sample of this turn to the sums of a tag that has this place, and of its key.
-pub fn add_known_label(keys: &mut TagKeyTable, place: TagPlace, value: i64, turn: u64)
+pub fn add_known_label(keys: &mut TagKeyTable<'_>, place: TagPlace, value: i64, turn: u64)
     requires even { AreEven keys.old }
     requires inside { IsPlaceIn keys.old place }
     ensures even { AreEven keys.new }
@@ -83,7 +83,7 @@ pub fn add_known_label(keys: &mut TagKeyTable, place: TagPlace, value: i64, turn
 fn make_room(
     alloc: Global,
     hash_keys: HashKeys,
-    tables: &mut Vec<TagTable>,
+    tables: &mut Vec<TagTable<'_>>,
     place: usize,
 ) -> Result<(), Memory>
     ensures even { EachEven tables.old.items → OnOk result (EachEven tables.new.items) }
@@ -98,18 +98,18 @@ fn make_room(
 }
 
 // Adds the value of the sample of this turn to the sum of the tag in the table at the place. Gives the tag's number.
-fn add_at(
-    tables: &mut Vec<TagTable>,
+fn add_at<'a>(
+    tables: &mut Vec<TagTable<'a>>,
     place: usize,
-    tag: TagName,
+    tag: TagName<'a>,
     value: i64,
     turn: u64,
 ) -> Result<u64, Memory>
     requires even { EachEven tables.old.items }
     requires within { place < length tables.old.items }
     ensures number { IfOk result (λ t.
-        Renames tables.old.items place (name_texts tag) t tables.new.items) }
-    ensures adds { (e : Event) → e.tag ≡ name_texts tag → e.value ≡ value → e.turn ≡ turn →
+        Renames tables.old.items place (name_texts tag.entry) t tables.new.items) }
+    ensures adds { (e : Event) → e.tag ≡ name_texts tag.entry → e.value ≡ value → e.turn ≡ turn →
         OnOk result (AddsAt tables.old.items place e tables.new.items) }
 {
     let t = add_tag(&mut tables[place], tag, value, turn)?;

@@ -23,15 +23,19 @@ use std::alloc::Global;
 
 /// The tags that were counted so far, and where each label that was seen has its tag: so a label's texts are read once.
 #[derive(Drop)]
-pub struct TagCounts {
+pub struct TagCounts<'a> {
     /// The keys and their tags so far.
-    pub keys: TagKeyTable,
+    pub keys: TagKeyTable<'a>,
     /// Where the tag of a label stands that was seen before.
     pub places: IndexMap<Label, TagPlace, HashKeys>,
 }
 
 /// The sums of the tags that are shown of the samples with these numbers, and of their keys.
-pub fn count_tags(alloc: Global, survey: &Survey<'_>, kept: &[u32]) -> Result<TagKeyTable, Memory>
+pub fn count_tags<'a>(
+    alloc: Global,
+    survey: &Survey<'a>,
+    kept: &[u32],
+) -> Result<TagKeyTable<'a>, Memory>
     ensures even { IfOk result AreEven }
     ensures keys { (f : Finders) → FindsInSurvey survey.now f →
         AreSmall (events_from 0
@@ -53,7 +57,7 @@ pub fn count_tags(alloc: Global, survey: &Survey<'_>, kept: &[u32]) -> Result<Ta
 }
 
 // No tags.
-fn no_counts(alloc: Global, hash_keys: HashKeys) -> Result<TagCounts, Memory>
+fn no_counts<'a>(alloc: Global, hash_keys: HashKeys) -> Result<TagCounts<'a>, Memory>
     ensures sound { IfOk result (λ counts. (p : Tables) → AreSound p counts) }
     ensures keys { IfOk result (λ counts. AreKeys [] counts.keys) }
 {
@@ -64,13 +68,13 @@ fn no_counts(alloc: Global, hash_keys: HashKeys) -> Result<TagCounts, Memory>
 }
 
 // The tags that are shown of the sample, which has this turn. `shown` is room for its labels.
-fn count_sample(
+fn count_sample<'a>(
     alloc: Global,
-    survey: &Survey<'_>,
+    survey: &Survey<'a>,
     s: &Sample,
     turn: u64,
     shown: &mut List<Label>,
-    counts: &mut TagCounts,
+    counts: &mut TagCounts<'a>,
 ) -> Result<(), Memory>
     requires sample { IsSampleOf (survey_profile survey.now) s.now }
     requires sound { AreSound (survey_profile survey.now) counts.old }
@@ -98,13 +102,13 @@ fn count_sample(
     )
 }
 
-fn count_labels(
+fn count_labels<'a>(
     alloc: Global,
-    p: &Profile,
+    p: &'a Profile,
     labels: &[Label],
     value: i64,
     turn: u64,
-    counts: &mut TagCounts,
+    counts: &mut TagCounts<'a>,
 ) -> Result<(), Memory>
     requires { AreSound p.now counts.old }
     ensures sound { OnOk result (AreSound p.now counts.new) }
@@ -118,13 +122,13 @@ fn count_labels(
     Ok(())
 }
 
-fn count_label(
+fn count_label<'a>(
     alloc: Global,
-    p: &Profile,
+    p: &'a Profile,
     label: &Label,
     value: i64,
     turn: u64,
-    counts: &mut TagCounts,
+    counts: &mut TagCounts<'a>,
 ) -> Result<(), Memory>
     requires { AreSound p.now counts.old }
     ensures sound { OnOk result (AreSound p.now counts.new) }
@@ -136,8 +140,8 @@ fn count_label(
         add_known_label(&mut counts.keys, place, value, turn);
         return Ok(());
     }
-    let key = key_name(alloc, p, label)?;
-    let tag = tag_name(alloc, p, label)?;
+    let key = key_name(p, label);
+    let tag = tag_name(p, label);
     let place = add_label(alloc, &mut counts.keys, key, tag, value, turn)?;
     counts.places.insert(*label, place)?;
     Ok(())

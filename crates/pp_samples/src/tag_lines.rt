@@ -17,7 +17,7 @@ ghost use Rattle.pp_samples.specs.Ranked.{line_entry, line_key, event_entry, tab
 use crate::key_table::TagKeyTable;
 use crate::label_lines::put_own_value;
 use crate::tag_counts::count_tags;
-use crate::tag_name::{TagName, tag_order};
+use crate::tag_name::{TagName, tag_value_order};
 use crate::tag_table::{TagSum, TagTable};
 use pp_base::{List, Memory, Text};
 use pp_count::Survey;
@@ -29,7 +29,7 @@ use std::cmp::Ordering;
 #[derive(Clone, Copy)]
 pub struct TagLine<'a> {
     /// What the tag says.
-    pub name: &'a TagName,
+    pub name: TagName<'a>,
     /// What the samples that have it come to.
     pub sum: TagSum,
     /// Its number in its table, in the order of first sight.
@@ -58,7 +58,12 @@ pub fn write_tags(
 }
 
 // The keys in their order, each with its tags.
-fn put_keys(alloc: Global, unit: &Unit, keys: &TagKeyTable, out: &mut Text) -> Result<(), Memory>
+fn put_keys(
+    alloc: Global,
+    unit: &Unit,
+    keys: &TagKeyTable<'_>,
+    out: &mut Text,
+) -> Result<(), Memory>
     requires { AreEven keys.now }
     ensures { (samples : List (Seen TagTexts)) → AreKeys (events_from 0 samples) keys.now →
         IfOk result (λ _. out.new ≡ out.old
@@ -128,7 +133,7 @@ fn put_key_line(unit: &Unit, key: &TagLine, out: &mut Text) -> Result<(), Memory
         ++ key_line (shown unit.now) (line_key key.now) key.now.sum.sum) }
 {
     out.extend(b" ")?;
-    out.extend(key.name.key.as_slice())?;
+    out.extend(key.name.key)?;
     out.extend(b": Total ")?;
     put_value(key.sum.sum, unit, out)?;
     out.extend(b"\n")
@@ -166,7 +171,7 @@ fn put_line(
     out.extend(b" (")?;
     put_share(size, line.sum.sum, out)?;
     out.extend(b"): ")?;
-    put_tag(alloc, line.name, out)?;
+    put_tag(alloc, &line.name, out)?;
     out.extend(b"\n")
 }
 
@@ -190,13 +195,13 @@ fn put_tag(alloc: Global, name: &TagName, out: &mut Text) -> Result<(), Memory>
     ensures { IfOk result (λ _. out.new ≡ out.old ++ tag_value (name_texts name.now)) }
 {
     if name.is_number {
-        return put_own_value(alloc, name.num, name.unit.as_slice(), out);
+        return put_own_value(alloc, name.num, name.unit, out);
     }
-    out.extend(name.text.as_slice())
+    out.extend(name.text)
 }
 
 // The tags of a table, by their numbers.
-fn table_lines<'a>(alloc: Global, table: &'a TagTable) -> Result<Vec<TagLine<'a>>, Memory>
+fn table_lines<'a>(alloc: Global, table: &TagTable<'a>) -> Result<Vec<TagLine<'a>>, Memory>
     requires { IsEven table.now }
     ensures numbers { IfOk result (λ lines.
         All (λ line. line.number < length table.now.names) lines.items) }
@@ -210,7 +215,7 @@ fn table_lines<'a>(alloc: Global, table: &'a TagTable) -> Result<Vec<TagLine<'a>
     Ok(lines)
 }
 
-fn table_line<'a>(table: &'a TagTable, number: u64) -> TagLine<'a>
+fn table_line<'a>(table: &TagTable<'a>, number: u64) -> TagLine<'a>
     requires even { IsEven table.now }
     requires within { number < length table.now.names }
     ensures number { result.number ≡ number }
@@ -228,7 +233,7 @@ fn table_line<'a>(table: &'a TagTable, number: u64) -> TagLine<'a>
 fn key_order(a: &TagLine, b: &TagLine) -> Ordering
     ensures { result ≡ line_key_cmp a.now b.now }
 {
-    a.name.key.as_slice().cmp(b.name.key.as_slice())
+    a.name.key.cmp(b.name.key)
 }
 
 // The greater absolute sum first, then by value.
@@ -239,5 +244,5 @@ fn line_order(a: &TagLine, b: &TagLine) -> Ordering
     if sums.is_ne() {
         return sums;
     }
-    tag_order(a.name, b.name)
+    tag_value_order(&a.name, &b.name)
 }

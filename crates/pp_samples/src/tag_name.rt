@@ -1,97 +1,86 @@
 //! What a label says, told apart by texts.
-ghost use Rattle.std.specs.Prelude.{◌≡◌, [], pos, true, false, IfOk};
+ghost use Rattle.std.specs.Prelude.{◌≡◌, [], pos, true, false};
 ghost use Rattle.pp_tags.specs.Labels.{key_text};
-ghost use Rattle.pp_samples.specs.TagLines.{tag_texts, shown_tag_cmp};
-ghost use Rattle.pp_samples.specs.Names.{name_texts, key_tag};
+ghost use Rattle.pp_samples.specs.TagLines.{tag_texts};
+ghost use Rattle.pp_samples.specs.Names.{name_texts, key_tag, tag_value_cmp};
 
-use pp_base::Memory;
 use pp_model::{Label, Profile, text_of};
 use pp_tags::{has_text, number_unit};
-use std::alloc::Global;
 use std::cmp::Ordering;
 
-/// A key with its text, or with its number and the number's unit. A key alone has the empty text.
-#[derive(Debug, Drop, PartialEq, Eq, Hash)]
-pub struct TagName {
+/// A key with its text, or with its number and the number's unit. A key alone has the empty text. Texts are those of the
+/// profile that has the label.
+#[derive(Clone, Copy, Debug, PartialEq, Eq, Hash)]
+pub struct TagName<'a> {
     /// The label's key.
-    pub key: Vec<u8>,
+    pub key: &'a [u8],
     /// Whether it is a number label.
     pub is_number: bool,
     /// The text of a text label.
-    pub text: Vec<u8>,
+    pub text: &'a [u8],
     /// The number of a number label, in its unit.
     pub num: i64,
     /// The unit of the number, empty where there is none.
-    pub unit: Vec<u8>,
+    pub unit: &'a [u8],
 }
 
 /// What the label says.
-pub fn tag_name(alloc: Global, p: &Profile, label: &Label) -> Result<TagName, Memory>
-    ensures { IfOk result (λ name. name_texts name ≡ tag_texts p.now label.now) }
+pub fn tag_name<'a>(p: &'a Profile, label: &Label) -> TagName<'a>
+    ensures { name_texts result ≡ tag_texts p.now label.now }
 {
+    let key = text_of(p, label.key);
     if has_text(label) {
-        return text_name(alloc, text_of(p, label.key), text_of(p, label.text));
+        return text_name(key, text_of(p, label.text));
     }
-    number_name(
-        alloc,
-        text_of(p, label.key),
-        label.num,
-        number_unit(p, label),
-    )
+    TagName {
+        key,
+        is_number: true,
+        text: b"",
+        num: label.num,
+        unit: number_unit(p, label),
+    }
 }
 
-fn text_name(alloc: Global, key: &[u8], text: &[u8]) -> Result<TagName, Memory>
-    ensures { IfOk result (λ name. name_texts name ≡ record {
+fn text_name<'a>(key: &'a [u8], text: &'a [u8]) -> TagName<'a>
+    ensures { name_texts result ≡ record {
       key = key.now;
       is_number = false;
       text = text.now;
       num = pos 0;
       unit = [];
-    }) }
+    } }
 {
-    Ok(TagName {
-        key: key.to_vec(alloc)?,
+    TagName {
+        key,
         is_number: false,
-        text: text.to_vec(alloc)?,
+        text,
         num: 0,
-        unit: Vec::new(alloc),
-    })
-}
-
-fn number_name(alloc: Global, key: &[u8], num: i64, unit: &[u8]) -> Result<TagName, Memory>
-    ensures { IfOk result (λ name. name_texts name ≡ record {
-      key = key.now;
-      is_number = true;
-      text = [];
-      num = num;
-      unit = unit.now;
-    }) }
-{
-    Ok(TagName {
-        key: key.to_vec(alloc)?,
-        is_number: true,
-        text: Vec::new(alloc),
-        num,
-        unit: unit.to_vec(alloc)?,
-    })
+        unit: b"",
+    }
 }
 
 /// The key of the label alone.
-pub fn key_name(alloc: Global, p: &Profile, label: &Label) -> Result<TagName, Memory>
-    ensures { IfOk result (λ name. name_texts name ≡ key_tag (key_text p.now label.now)) }
+pub fn key_name<'a>(p: &'a Profile, label: &Label) -> TagName<'a>
+    ensures { name_texts result ≡ key_tag (key_text p.now label.now) }
 {
-    text_name(alloc, text_of(p, label.key), b"")
+    text_name(text_of(p, label.key), b"")
 }
 
-/// By key, texts before numbers, by text, number and unit.
-pub fn tag_order(a: &TagName, b: &TagName) -> Ordering
-    ensures { result ≡ shown_tag_cmp (name_texts a.now) (name_texts b.now) }
+/// The order of the tags of a key: texts before numbers, by text, number and unit.
+pub fn tag_value_order(a: &TagName, b: &TagName) -> Ordering
+    ensures { result ≡ tag_value_cmp (name_texts a.now) (name_texts b.now) }
 {
-    a.key
-        .as_slice()
-        .cmp(b.key.as_slice())
-        .then(a.is_number.cmp(&b.is_number))
-        .then(a.text.as_slice().cmp(b.text.as_slice()))
-        .then(a.num.cmp(&b.num))
-        .then(a.unit.as_slice().cmp(b.unit.as_slice()))
+    let kinds = a.is_number.cmp(&b.is_number);
+    if kinds.is_ne() {
+        return kinds;
+    }
+    let texts = a.text.cmp(b.text);
+    if texts.is_ne() {
+        return texts;
+    }
+    let numbers = a.num.cmp(&b.num);
+    if numbers.is_ne() {
+        return numbers;
+    }
+    a.unit.cmp(b.unit)
 }

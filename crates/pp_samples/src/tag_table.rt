@@ -34,15 +34,15 @@ impl TagSum {
 
 /// Tags with their sums.
 #[derive(Drop)]
-pub struct TagTable {
+pub struct TagTable<'a> {
     /// The tags, by number.
-    pub names: TagNames,
+    pub names: TagNames<'a>,
     /// By a tag's number, what its samples come to.
     pub sums: Vec<TagSum>,
 }
 
 /// A table without tags.
-pub fn no_tags(alloc: Global, hash_keys: HashKeys) -> Result<TagTable, Memory>
+pub fn no_tags<'a>(alloc: Global, hash_keys: HashKeys) -> Result<TagTable<'a>, Memory>
     ensures even { IfOk result IsEven }
     ensures table { IfOk result (λ table. IsTableOf [] table) }
 {
@@ -54,12 +54,17 @@ pub fn no_tags(alloc: Global, hash_keys: HashKeys) -> Result<TagTable, Memory>
 
 /// Adds the value of the sample of this turn to the sum of the tag, once, and gives the tag's number. A tag that is new
 /// gets the next one.
-pub fn add_tag(table: &mut TagTable, name: TagName, value: i64, turn: u64) -> Result<u64, Memory>
+pub fn add_tag<'a>(
+    table: &mut TagTable<'a>,
+    name: TagName<'a>,
+    value: i64,
+    turn: u64,
+) -> Result<u64, Memory>
     requires { IsEven table.old }
     ensures even { OnOk result (IsEven table.new) }
-    ensures number { IfOk result (λ n. n ≡ place_of same_tag table.old.names (name_texts name)) }
-    ensures names { OnOk result (table.new.names ≡ seen_with same_tag table.old.names (name_texts name)) }
-    ensures table { (events : List Event) → (e : Event) → e.tag ≡ name_texts name → e.value ≡ value →
+    ensures number { IfOk result (λ n. n ≡ place_of same_tag table.old.names (name_texts name.entry)) }
+    ensures names { OnOk result (table.new.names ≡ seen_with same_tag table.old.names (name_texts name.entry)) }
+    ensures table { (events : List Event) → (e : Event) → e.tag ≡ name_texts name.entry → e.value ≡ value →
         e.turn ≡ turn → IsTableOf events table.old → AreSmall (events ++ e ∷ []) →
         OnOk result (IsTableOf (events ++ e ∷ []) table.new) }
 {
@@ -70,7 +75,7 @@ pub fn add_tag(table: &mut TagTable, name: TagName, value: i64, turn: u64) -> Re
 }
 
 /// Adds the value of the sample of this turn to the sum of the tag with the number, once.
-pub fn add_known(table: &mut TagTable, n: u64, value: i64, turn: u64)
+pub fn add_known(table: &mut TagTable<'_>, n: u64, value: i64, turn: u64)
     requires even { IsEven table.old }
     requires known { n < length table.old.names }
     ensures even { IsEven table.new }
