@@ -33,6 +33,6 @@ returns-clause-sound c =
       known =
           known_more c.args.p.now c.args.counts.now.keys new (get same_label_parts c.args.counts.now.places) (get same_label_parts c.insert.new.self) c.args.label.now place
           c.requires.known c.in_ok-place.ensures.kept
-          (subst (λ (tag : TagTexts). HasTagPlace new tag place) c.tag_name.ensures c.in_ok-place.ensures.place)
+          (subst (λ (tag : TagTexts). HasTagPlace new tag place) c.tag_name-tag.ensures c.in_ok-place.ensures.place)
           c.in_ok-insert.ensures.updates.0;
     }

@@ -1,6 +1,6 @@
-use Rattle.std.proofs.Common.{◌++◌, List, ap, sym, subst, ◌∙◌, arith}
+use Rattle.std.proofs.Common.{◌++◌, List, ap, ◌∙◌, arith}
 use Rattle.std.specs.List.{flat_map}
-use Rattle.std.proofs.lemmas.List.{take_all}
+use Rattle.std.proofs.lemmas.List.{get_or_default, take_all}
 use Rattle.std.proofs.lemmas.List.Elements.{All-get_or}
 use Rattle.pp_units.specs.Shown.{shown}
 use Rattle.pp_samples.specs.declared.tag_lines.TagLine.{TagLine}
@@ -13,12 +13,9 @@ pub loop-line-preserved : goal.loop-line-preserved
 loop-line-preserved c samples all =
     let lines = c.args.lines.now in
     let i = c.loop-line.line-index in
-    let line = c.line-item.result in
-    let is = c.line-item.is in
-    lines_more (λ (line : TagLine). key_lines (shown c.args.unit.now) samples (line_key line)) c.args.out.now c.loop-line.out c.put_key.new.out lines i line c.loop-line-test.true is
-    (c.loop-line.invariant samples all)
-    (c.in_ok-put_key.ensures samples
-    (subst (IsKeyLine samples c.args.tables.now) (sym is) (All-get_or (IsKeyLine samples c.args.tables.now) lines i line c.loop-line-test.true all)))
+    lines_more (λ (line : TagLine). key_lines (shown c.args.unit.now) samples (line_key line)) c.args.out.now c.loop-line.out c.put_key.new.out lines i _ c.loop-line-test.true
+    (get_or_default lines i _ _ c.loop-line-test.true) (c.loop-line.invariant samples all)
+    (c.in_ok-put_key.ensures samples (All-get_or (IsKeyLine samples c.args.tables.now) lines i _ c.loop-line-test.true all))
 
 pub returns : goal.returns
 returns c samples all =
