@@ -8,12 +8,10 @@ ghost use Rattle.pp_load.specs.Combine.{agreeing, agreeing_with, merging, scalin
 use crate::refusal::LoadRefusal;
 use pp_base::{List, Memory};
 use pp_desk::{Halt, Stop};
-use pp_keys::HashKeys;
-use pp_merge::{MergeRefusal, NothingToScale, agree, merge_on, normalize, subtract};
+use pp_merge::{MergeRefusal, NothingToScale, agree, merge_on, normalize, subtract_on};
 use pp_model::{BaseKind, Compact};
 use pp_share::Hashed;
 use pp_steal::Resources;
-use std::alloc::Global;
 use std::thread::Threads;
 
 /// The profiles as one: the first `sources` are sources, and the others bases. All are compared with the first source,
@@ -163,7 +161,7 @@ fn take_off<R: Threads + Sync>(
 {
     let base = merge_all(with, bases)?;
     let source = scale_if(normalize, source, &base)?;
-    subtract_base(with.alloc, with.keys, source, base, kind)
+    subtract_base(with, source, base, kind)
 }
 
 // The source scaled to the base, where that is asked for.
@@ -185,9 +183,8 @@ fn scale_if(wanted: bool, mut source: Compact, base: &Compact) -> Result<Compact
 }
 
 // The source without the base.
-fn subtract_base(
-    alloc: Global,
-    hash_keys: HashKeys,
+fn subtract_base<R: Threads + Sync>(
+    with: &Resources<'_, R>,
     source: Compact,
     base: Compact,
     kind: BaseKind,
@@ -197,7 +194,7 @@ fn subtract_base(
     ensures ready { IfOk result IsReady }
 {
     let (_source, _base) = (source.get(), base.get());
-    match subtract(alloc, hash_keys, source, base, kind) {
+    match subtract_on(with, source, base, kind) {
         Ok(merged) => Ok(merged),
         Err(refusal) => Err(halt_of(refusal)),
     }

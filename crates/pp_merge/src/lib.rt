@@ -30,4 +30,4 @@ pub use merging::{merge, merge_on};
 pub use normalizing::normalize;
 pub use refusal::{MergeRefusal, NothingToScale, What};
 pub use scaling::scale;
-pub use subtracting::subtract;
+pub use subtracting::{subtract, subtract_on};

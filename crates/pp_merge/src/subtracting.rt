@@ -1,17 +1,20 @@
 //! A base taken off a profile.
 ghost use Rattle.std.specs.Prelude.{◌≡◌, ◌+◌, ◌<◌, ◌^◌, None, [], ◌∷◌, ◌++◌, length, map, IfOk, OnOk};
+ghost use Rattle.std.specs.List.{AllByRecursion, sum_by};
 ghost use Rattle.pp_model.specs.Rules.{NoRuleFails};
 ghost use Rattle.pp_model.specs.Sizes.{IsCountable};
 ghost use Rattle.pp_merge.specs.Merge.{Merges, difference};
 ghost use Rattle.pp_merge.specs.Scale.{base_label, base_texts, labelled_sample, negated};
 
-use crate::merging::merge;
+use crate::merging::{merge, merge_plain_on};
 use crate::refusal::MergeRefusal;
 use pp_base::{List, Memory, Text};
 use pp_keys::HashKeys;
 use pp_model::{BaseKind, Compact, Label, Profile, Sample, Valid};
 use pp_share::{Change, change_each};
+use pp_steal::Resources;
 use std::alloc::Global;
+use std::thread::Threads;
 
 /// The source merged with the base, whose values are negated. For `DiffBase` each sample of the base has the label
 /// `pprof::base` of the text `true` after its own. It is never `Incompatible`.
@@ -29,11 +32,47 @@ pub fn subtract(
     ensures merges { Merges (source ∷ negated kind base ∷ []) result }
     ensures agree { difference source (negated kind base) ≡ None }
 {
+    merge(alloc, hash_keys, with_negated(alloc, source, base, kind)?)
+}
+
+/// The profile or refusal of `subtract`, whose samples are hashed, sorted and placed on `with.workers` lanes. The answer
+/// does not tell how many there were.
+pub fn subtract_on<R: Threads + Sync>(
+    with: &Resources<'_, R>,
+    source: Compact,
+    base: Compact,
+    kind: BaseKind,
+) -> Result<Compact, MergeRefusal>
+    requires source { IsCountable source }
+    requires base { IsCountable base }
+    requires agree { difference source base ≡ None }
+    requires few { length source.sample + length base.sample < 2 ^ 32 }
+    ensures merges { Merges (source ∷ negated kind base ∷ []) result }
+    ensures agree { difference source (negated kind base) ≡ None }
+{
+    merge_plain_on(with, with_negated(with.alloc, source, base, kind)?)
+}
+
+// The source and the negated base, which can be merged.
+fn with_negated(
+    alloc: Global,
+    source: Compact,
+    base: Compact,
+    kind: BaseKind,
+) -> Result<List<Valid>, Memory>
+    requires source { IsCountable source }
+    requires base { IsCountable base }
+    requires agree { difference source base ≡ None }
+    requires few { length source.sample + length base.sample < 2 ^ 32 }
+    ensures list { IfOk result (λ list. list ≡ source ∷ negated kind base ∷ []) }
+    ensures columns { IfOk result (AllByRecursion (λ p. length p.sample_type < 2 ^ 32)) }
+    ensures samples { IfOk result (λ list. sum_by (λ p. length p.sample) list < 2 ^ 32) }
+    ensures agree { difference source (negated kind base) ≡ None }
+{
     // In a valid base the types name texts, so that more texts change nothing of what it has to agree in.
     let _valid = base.get();
     let base = negate(alloc, base, kind)?;
-    let list = pair(alloc, source.into_valid(), base)?;
-    merge(alloc, hash_keys, list)
+    pair(alloc, source.into_valid(), base)
 }
 
 // The two profiles as a list.

@@ -1,12 +1,14 @@
 //! A profile without its addresses, and the table rules.
+ghost use Rattle.pp_merge.specs.Merge.{difference};
 ghost use Rattle.pp_model.specs.Sizes.{HasAtMost, IsCountable};
-ghost use Rattle.std.specs.Prelude.{IfOk};
+ghost use Rattle.std.specs.Bool.{OnTrue};
+ghost use Rattle.std.specs.Prelude.{◌≡◌, ◌+◌, ◌<◌, ◌^◌, None, length, IfOk};
 
 use anyhow::{Result, ensure};
 use pp_aggregate::{Kept, aggregate_compact};
 use pp_base::{Memory, Text};
 use pp_keys::HashKeys;
-use pp_model::{Compact, Profile};
+use pp_model::{BaseKind, Compact, Profile};
 use std::alloc::Global;
 
 // All but the addresses.
@@ -27,6 +29,30 @@ pub fn put_sizes(alloc: Global, server: &Compact, out: &mut Text) -> Result<()> 
     let left = coarse.get().location.len();
     let line = format!(in alloc; "\n{locations} locations, {left} without addresses")?;
     Ok(out.extend(line.as_bytes())?)
+}
+
+/// Appends how many samples are left of the profile that is taken off itself.
+pub fn put_difference(alloc: Global, server: &Compact, out: &mut Text) -> Result<()> {
+    let source = pp_edit::copy_compact(alloc, server)?;
+    let base = pp_edit::copy_compact(alloc, server)?;
+    ensure!(can_subtract(&source, &base), "can't be taken off itself");
+    let left = pp_merge::subtract(alloc, HashKeys::fixed(), source, base, BaseKind::Base)?;
+    let count = left.get().sample.len();
+    let line = format!(in alloc; "\n{count} samples left of a profile that is its own base")?;
+    Ok(out.extend(line.as_bytes())?)
+}
+
+// Whether the two are countable, agree, and are short enough together.
+fn can_subtract(source: &Compact, base: &Compact) -> bool
+    ensures source { OnTrue result (IsCountable source.now) }
+    ensures base { OnTrue result (IsCountable base.now) }
+    ensures agree { OnTrue result (difference source.now base.now ≡ None) }
+    ensures few { OnTrue result (length source.now.sample + length base.now.sample < 2 ^ 32) }
+{
+    pp_edit::is_countable(source.get())
+        && pp_edit::is_countable(base.get())
+        && pp_merge::agree(source.valid(), base.valid()).is_none()
+        && source.get().sample.len() + base.get().sample.len() < 1 << 32
 }
 
 // What is equal without addresses becomes one.

@@ -46,6 +46,7 @@ fn put_tables(alloc: Global, server: &Compact, out: &mut Text) -> Result<()> {
     recording::put_header(alloc, server.get(), out)?;
     labels::put_labels(alloc, server, out)?;
     checking::put_sizes(alloc, server, out)?;
+    checking::put_difference(alloc, server, out)?;
     checking::put_faults(alloc, server, out)
 }
 
