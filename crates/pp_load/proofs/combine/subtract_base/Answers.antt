@@ -6,7 +6,7 @@ use Rattle.pp_load.proofs.combine.subtract_base.Goals as goal
 
 -- the two agree
 pub subtract_on-requires-clause-agree : goal.subtract_on-requires-clause-agree
-subtract_on-requires-clause-agree g c = pair_agrees c.args.source c.args.base c.requires
+subtract_on-requires-clause-agree g c = λ _ _. pair_agrees c.args.source c.args.base c.requires
 
 -- the source and the negated base were merged
 pub returns-in-Ok-clause-is : goal.returns-in-Ok-clause-is
