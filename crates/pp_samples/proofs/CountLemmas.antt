@@ -1,8 +1,9 @@
 -- Events of labels and of samples, one after the other.
-use Rattle.std.proofs.Common.{◌≡◌, ℕ, ◌+◌, ◌<◌, Bool, true, false, cond, ℤ, Option, Some, List, [], ◌∷◌, ◌++◌, map, length, take, get_or, refl, sym, ap, subst, ◌∙◌, append_assoc, arith}
-use Rattle.std.proofs.lemmas.List.{map-append, take_more, length-map}
+use Rattle.std.proofs.Common.{◌≡◌, ℕ, ◌+◌, ◌<◌, true, ℤ, Option, Some, None, List, [], ◌∷◌, ◌++◌, map, length, take, get_or, replicate, inl, inr, refl, sym, ap, subst, ◌∙◌, append_assoc, arith}
+use Rattle.std.proofs.lemmas.List.{map-append, take_more, length-map, length-replicate, get_or-replicate, get_or-set_same, get_or-set_other, get_or_past, set_past}
 use Rattle.std.specs.Option.{unwrap_or}
-use Rattle.std.proofs.lemmas.Bool.{and_parts}
+use Rattle.std.proofs.lemmas.Option.{none-some}
+use Rattle.std.proofs.lemmas.Bool.{and_parts, cases_lt, cases_eq}
 use Rattle.std.proofs.lemmas.Bool.Decides.{Decides-int_eq}
 use Rattle.pp_model.specs.declared.profile.Label.{Label}
 use Rattle.pp_model.specs.declared.profile.Profile.{Profile}
@@ -10,7 +11,9 @@ use Rattle.pp_count.specs.Sums.{Seen}
 use Rattle.pp_samples.specs.declared.key_table.TagKeyTable.{TagKeyTable}
 use Rattle.pp_samples.specs.declared.key_table.TagPlace.{TagPlace}
 use Rattle.pp_samples.specs.TagLines.{TagTexts, tag_texts}
+use Rattle.pp_samples.specs.declared.recent.PlacedLabel.{PlacedLabel}
 use Rattle.pp_samples.specs.Places.{HasTagPlace, KeepsTagPlaces}
+use Rattle.pp_samples.specs.Recent.{AreBlank, Holds, Noted, written, passed}
 use Rattle.pp_samples.specs.Labels.{same_label_parts}
 use Rattle.pp_samples.specs.Tables.{Event, label_event, sample_events, events_from}
 
@@ -46,7 +49,7 @@ samples_counted tagged before more all turn is at =
     ∙ ap (λ (n : ℕ). events_from 0 (map tagged before) ++ events_from n (map tagged more)) (let e : 0 + length (map tagged before) ≡ turn = omega (arith, at, length-map before tagged) in e)
 
 -- labels of the same parts are one
-known_label : (a b : Label) → same_label_parts a b ≡ true → a ≡ b
+pub known_label : (a b : Label) → same_label_parts a b ≡ true → a ≡ b
 known_label a b same =
     let text = and_parts _ _ (and_parts _ _ same).1 in
     let num = and_parts _ _ text.1 in
@@ -58,13 +61,35 @@ known_label a b same =
     }
 
 -- one place more is known
-pub known_more : (p : Profile) (old new : TagKeyTable) (before after : Label → Option TagPlace) (label : Label) (place : TagPlace)
-    → ((l : Label) (w : TagPlace) → before l ≡ Some w → HasTagPlace old (tag_texts p l) w) → KeepsTagPlaces old new → HasTagPlace new (tag_texts p label) place
-    → ((q : Label) → after q ≡ cond (same_label_parts label q) (Some place) (before q)) → (q : Label) (w : TagPlace) → after q ≡ Some w → HasTagPlace new (tag_texts p q) w
-known_more p old new before after label place known keeps own updated q w found = by (same_label_parts label q) refl (sym (updated q) ∙ found)
-  where
-    by : (b : Bool) → same_label_parts label q ≡ b → cond b (Some place) (before q) ≡ Some w → HasTagPlace new (tag_texts p q) w
-    by true same is =
-        subst (λ (l : Label). HasTagPlace new (tag_texts p l) w) (known_label label q same)
-        (subst (HasTagPlace new (tag_texts p label)) (ap (λ (o : Option TagPlace). unwrap_or o place) is) own)
-    by false other is = keeps (tag_texts p q) w (known q w is)
+pub known_more : (p : Profile) (old new : TagKeyTable) (before after : List (Option PlacedLabel)) (label : Label) (place : TagPlace)
+    → ((l : Label) (w : TagPlace) → Holds before l w → HasTagPlace old (tag_texts p l) w) → KeepsTagPlaces old new → HasTagPlace new (tag_texts p label) place
+    → Noted before label place after → (q : Label) (w : TagPlace) → Holds after q w → HasTagPlace new (tag_texts p q) w
+known_more p old new before after label place known keeps own (passed same) q w held =
+    keeps (tag_texts p q) w (known q w (subst (λ (slots : List (Option PlacedLabel)). Holds slots q w) same held))
+known_more p old new before after label place known keeps own (written slot is) q w held = elim (cases_eq held.slot slot) [
+  | inl here ↦ elim (cases_lt slot (length before)) [
+    | inl inside ↦
+        let this : Some (record { label = label; place = place }) ≡ Some (record { label = q; place = w }) =
+        sym (get_or-set_same before slot (Some (record { label = label; place = place })) None inside)
+        ∙ (λ i. get_or (sym is i) (sym here i) None) ∙ held.is in
+        subst (λ (at : PlacedLabel). HasTagPlace new (tag_texts p at.label) at.place)
+        (ap (λ (o : Option PlacedLabel). unwrap_or o (record { label = label; place = place })) this) own
+    | inr past ↦
+        keeps (tag_texts p q) w (known q w (record {
+          slot = held.slot;
+          is = (λ i. get_or (sym (set_past before slot (Some (record { label = label; place = place })) past) i) held.slot None) ∙ (λ i. get_or (sym is i) held.slot None) ∙ held.is;
+        }))
+  ]
+  | inr other ↦
+      keeps (tag_texts p q) w (known q w (record {
+        slot = held.slot;
+        is = sym (get_or-set_other before slot held.slot (Some (record { label = label; place = place })) None other) ∙ (λ i. get_or (sym is i) held.slot None) ∙ held.is;
+      }))
+]
+
+-- nothing is remembered yet
+pub none_known : (label : Label) (place : TagPlace) (slots : List (Option PlacedLabel)) → AreBlank slots → Holds slots label place → ⊥
+none_known label place slots blank held = elim (cases_lt held.slot blank.count) [
+  | inl here ↦ none-some _ (sym (get_or-replicate blank.count held.slot None None here) ∙ (λ i. get_or (sym blank.is i) held.slot None) ∙ held.is)
+  | inr past ↦ none-some _ (sym (get_or_past (replicate blank.count None) held.slot None (omega (arith, past, length-replicate {A = Option PlacedLabel} blank.count None))) ∙ (λ i. get_or (sym blank.is i) held.slot None) ∙ held.is)
+]

@@ -81,7 +81,7 @@ module _ (P : RankedTag → Type 0) (before lines : List TagLine) (entries : Lis
 
 -- the tag of a line
 abbrev pub line_tag : TagLine → TagTexts
-line_tag line = name_texts line.name
+line_tag line = name_texts line.name.now
 
 map_same : {A : Type 0} (xs : List A) → map (λ x. x) xs ≡ xs
 map_same [] = refl

@@ -3,7 +3,7 @@ use Rattle.std.proofs.Common.{◌≡◌, ◌+◌, Bool, true, false, cond, not, 
 use Rattle.std.specs.Bool.{Decides}
 use Rattle.std.specs.Cmp.{booleans_Decides}
 use Rattle.std.specs.List.{list_any, position_or_len}
-use Rattle.std.proofs.lemmas.Bool.{and_parts, and_from}
+use Rattle.std.proofs.lemmas.Bool.{and_from}
 use Rattle.std.proofs.lemmas.Bool.Decides.{Decides-int_eq}
 use Rattle.std.proofs.lemmas.Slice.Eq.{bytes_eq-Decides}
 use Rattle.std.proofs.lemmas.List.{map-append}
@@ -11,6 +11,7 @@ use Rattle.pp_model.specs.FirstSight.{seen_with}
 use Rattle.pp_samples.specs.declared.tag_name.TagName.{TagName}
 use Rattle.pp_samples.specs.TagLines.{TagTexts, same_tag}
 use Rattle.pp_samples.specs.Names.{name_texts}
+use Rattle.pp_samples.specs.TagHashes.{same_parts}
 
 module _ (same : TagName → TagName → Bool) (tells : (a b : TagName) → same a b ≡ same_tag (name_texts a) (name_texts b)) where
   pub place_told : (x : TagName) (xs : List TagName) → position_or_len (same x) xs ≡ position_or_len (same_tag (name_texts x)) (map name_texts xs)
@@ -32,18 +33,7 @@ module _ (same : TagName → TagName → Bool) (tells : (a b : TagName) → same
 -- tags with the same parts are the same
 pub tag_decides : (a b : TagTexts) → Decides (same_tag a b) (a ≡ b)
 tag_decides a b = (
-  λ same.
-      let from_key = and_parts _ _ same in
-      let from_kind = and_parts _ _ from_key.1 in
-      let from_text = and_parts _ _ from_kind.1 in
-      let from_num = and_parts _ _ from_text.1 in
-      λ i. record {
-        key = (bytes_eq-Decides a.key b.key).0 from_key.0 i;
-        is_number = (booleans_Decides a.is_number b.is_number).0 from_kind.0 i;
-        text = (bytes_eq-Decides a.text b.text).0 from_text.0 i;
-        num = (Decides-int_eq a.num b.num).0 from_num.0 i;
-        unit = (bytes_eq-Decides a.unit b.unit).0 from_num.1 i;
-      },
+  same_parts a b,
   λ is. subst (λ (c : TagTexts). same_tag a c ≡ true) is
       (and_from _ _ ((bytes_eq-Decides a.key a.key).1 refl)
       (and_from _ _ ((booleans_Decides a.is_number a.is_number).1 refl)

@@ -6,6 +6,8 @@ pub mod Tracing
 pub mod TagLines
 pub mod Surveyed
 pub mod Names
+pub mod TagHashes
+pub mod Recent
 pub mod Tables
 pub mod Places
 pub mod Counting

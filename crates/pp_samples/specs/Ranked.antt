@@ -20,11 +20,11 @@ pub record RankedTag : Type 0 where
 
 -- what the line says
 abbrev pub line_entry : TagLine → RankedTag
-line_entry line = record { tag = name_texts line.name; sum = line.sum; number = line.number }
+line_entry line = record { tag = name_texts line.name.now; sum = line.sum; number = line.number }
 
 -- the key of the line
 abbrev pub line_key : TagLine → List ℕ
-line_key line = line.name.key.now
+line_key line = line.name.now.key.now
 
 -- the empty tag, for where there is none
 abbrev pub no_tag : TagTexts

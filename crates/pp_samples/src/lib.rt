@@ -9,6 +9,7 @@ mod comments;
 mod frame_lines;
 mod key_table;
 mod label_lines;
+mod recent;
 mod subject;
 mod tag_counts;
 mod tag_lines;

@@ -1,19 +1,17 @@
 //! The tags of a report's samples, with their sums.
 ghost use Rattle.std.specs.Prelude.{◌≡◌, [], ◌∷◌, ◌++◌, map, List as Seq, IfOk, OnOk};
-ghost use Rattle.indexmap.specs.IndexMap.{get};
 ghost use Rattle.pp_model.specs.declared.profile.Profile.{Profile as Tables};
 ghost use Rattle.pp_model.specs.Conditions.{IsSampleOf};
 ghost use Rattle.pp_model.specs.Finders.{Finders};
 ghost use Rattle.pp_count.specs.Counts.{samples_at};
 ghost use Rattle.pp_samples.specs.Tables.{Event, AreKeys, AreSmall, label_event, sample_events, events_from};
 ghost use Rattle.pp_samples.specs.Places.{AreEven};
-ghost use Rattle.pp_samples.specs.Labels.{same_label_parts};
 ghost use Rattle.pp_samples.specs.Counting.{AreSound};
 ghost use Rattle.pp_samples.specs.Surveyed.{survey_profile, FindsInSurvey, survey_tagged};
 
-use crate::key_table::{TagKeyTable, TagPlace, add_known_label, add_label, no_keys};
+use crate::key_table::{TagKeyTable, add_known_label, add_label, no_keys};
+use crate::recent::Recent;
 use crate::tag_name::{key_name, tag_name};
-use indexmap::IndexMap;
 use pp_base::{List, Memory};
 use pp_count::{Survey, selected};
 use pp_keys::HashKeys;
@@ -21,13 +19,14 @@ use pp_model::{Label, Profile, Sample};
 use pp_tags::show_tags_into;
 use std::alloc::Global;
 
-/// The tags that were counted so far, and where each label that was seen has its tag: so a label's texts are read once.
+/// The tags that were counted so far, and where labels have theirs. So the texts of a label are read once, where it comes
+/// again soon.
 #[derive(Drop)]
 pub struct TagCounts<'a> {
     /// The keys and their tags so far.
     pub keys: TagKeyTable<'a>,
-    /// Where the tag of a label stands that was seen before.
-    pub places: IndexMap<Label, TagPlace, HashKeys>,
+    /// Where the tags of the labels stand that were counted last.
+    pub recent: Recent,
 }
 
 /// The sums of the tags that are shown of the samples with these numbers, and of their keys.
@@ -63,7 +62,7 @@ fn no_counts<'a>(alloc: Global, hash_keys: HashKeys) -> Result<TagCounts<'a>, Me
 {
     Ok(TagCounts {
         keys: no_keys(alloc, hash_keys)?,
-        places: IndexMap::with_hasher(alloc, hash_keys),
+        recent: Recent::new(alloc)?,
     })
 }
 
@@ -136,23 +135,13 @@ fn count_label<'a>(
         AreSmall (events ++ label_event p.now value turn label.now ∷ []) →
         OnOk result (AreKeys (events ++ label_event p.now value turn label.now ∷ []) counts.new.keys) }
 {
-    if let Some(place) = place_of(&counts.places, label) {
+    if let Some(place) = counts.recent.place(label) {
         add_known_label(&mut counts.keys, place, value, turn);
         return Ok(());
     }
     let key = key_name(p, label);
     let tag = tag_name(p, label);
     let place = add_label(alloc, &mut counts.keys, key, tag, value, turn)?;
-    counts.places.insert(*label, place)?;
+    counts.recent.note(*label, place);
     Ok(())
-}
-
-// The place of the label's tag, where the label was seen.
-fn place_of(places: &IndexMap<Label, TagPlace, HashKeys>, label: &Label) -> Option<TagPlace>
-    ensures { result ≡ get same_label_parts places.now label.now }
-{
-    match places.get(label) {
-        None => None,
-        Some(place) => Some(*place),
-    }
 }

@@ -27,9 +27,9 @@ use std::cmp::Ordering;
 
 /// A tag with what the samples come to that have it, and its number in its table.
 #[derive(Clone, Copy)]
-pub struct TagLine<'a> {
+pub struct TagLine<'x, 'a> {
     /// What the tag says.
-    pub name: TagName<'a>,
+    pub name: &'x TagName<'a>,
     /// What the samples that have it come to.
     pub sum: TagSum,
     /// Its number in its table, in the order of first sight.
@@ -171,7 +171,7 @@ fn put_line(
     out.extend(b" (")?;
     put_share(size, line.sum.sum, out)?;
     out.extend(b"): ")?;
-    put_tag(alloc, &line.name, out)?;
+    put_tag(alloc, line.name, out)?;
     out.extend(b"\n")
 }
 
@@ -201,7 +201,10 @@ fn put_tag(alloc: Global, name: &TagName, out: &mut Text) -> Result<(), Memory>
 }
 
 // The tags of a table, by their numbers.
-fn table_lines<'a>(alloc: Global, table: &TagTable<'a>) -> Result<Vec<TagLine<'a>>, Memory>
+fn table_lines<'x, 'a>(
+    alloc: Global,
+    table: &'x TagTable<'a>,
+) -> Result<Vec<TagLine<'x, 'a>>, Memory>
     requires { IsEven table.now }
     ensures numbers { IfOk result (λ lines.
         All (λ line. line.number < length table.now.names) lines.items) }
@@ -215,7 +218,7 @@ fn table_lines<'a>(alloc: Global, table: &TagTable<'a>) -> Result<Vec<TagLine<'a
     Ok(lines)
 }
 
-fn table_line<'a>(table: &TagTable<'a>, number: u64) -> TagLine<'a>
+fn table_line<'x, 'a>(table: &'x TagTable<'a>, number: u64) -> TagLine<'x, 'a>
     requires even { IsEven table.now }
     requires within { number < length table.now.names }
     ensures number { result.number ≡ number }
@@ -244,5 +247,5 @@ fn line_order(a: &TagLine, b: &TagLine) -> Ordering
     if sums.is_ne() {
         return sums;
     }
-    tag_value_order(&a.name, &b.name)
+    tag_value_order(a.name, b.name)
 }

@@ -7,10 +7,11 @@ ghost use Rattle.pp_samples.specs.Names.{name_texts, key_tag, tag_value_cmp};
 use pp_model::{Label, Profile, text_of};
 use pp_tags::{has_text, number_unit};
 use std::cmp::Ordering;
+use std::hash::{Hash, Hasher};
 
 /// A key with its text, or with its number and the number's unit. A key alone has the empty text. Texts are those of the
 /// profile that has the label.
-#[derive(Clone, Copy, Debug, PartialEq, Eq, Hash)]
+#[derive(Clone, Copy, Debug, PartialEq, Eq)]
 pub struct TagName<'a> {
     /// The label's key.
     pub key: &'a [u8],
@@ -22,6 +23,25 @@ pub struct TagName<'a> {
     pub num: i64,
     /// The unit of the number, empty where there is none.
     pub unit: &'a [u8],
+}
+
+// The tags of a table have one key, or are keys. So a hash takes only what tells them apart.
+impl Hash for TagName<'_> {
+    ghost use Rattle.pp_samples.specs.TagHashes.{hashed_name, same_hashed};
+
+    ghost hash_input = { hashed_name };
+
+    ghost respects_eq = { same_hashed };
+
+    fn hash<H: Hasher>(&self, state: &mut H) {
+        if self.is_number {
+            self.num.hash(state);
+            state.write(self.unit);
+        } else {
+            state.write(self.key);
+            state.write(self.text);
+        }
+    }
 }
 
 /// What the label says.

@@ -53,11 +53,11 @@ impl<'a> TagNames<'a> {
     }
 
     /// The tag with the number.
-    pub fn name(&self, n: u64) -> TagName<'a>
+    pub fn name(&self, n: u64) -> &TagName<'a>
         requires { n < length self.now }
-        ensures { slice_get self.now n ≡ Some (name_texts result) }
+        ensures { slice_get self.now n ≡ Some (name_texts result.now) }
     {
-        self.seen.as_slice()[n as usize]
+        &self.seen.as_slice()[n as usize]
     }
 
     /// The number of tags.
