@@ -62,7 +62,7 @@ fn no_counts<'a>(alloc: Global, hash_keys: HashKeys) -> Result<TagCounts<'a>, Me
 {
     Ok(TagCounts {
         keys: no_keys(alloc, hash_keys)?,
-        recent: Recent::new(alloc)?,
+        recent: Recent::new(alloc, hash_keys)?,
     })
 }
 
