@@ -2,7 +2,6 @@ pub mod Firsts
 mod Counting
 pub mod Each
 mod Putting
-pub mod Filtered
 pub mod Noding
 mod Lining
 mod Examples

@@ -21,13 +21,15 @@ use Rattle.pp_count.specs.Seeing.{HoldsFilters}
 use Rattle.pp_count.specs.Sums.{Seen, flat, cum, all_keys}
 use Rattle.pp_count.specs.Table.{written_key}
 use Rattle.pp_graph.specs.declared.ranking.Ranked.{Ranked}
-use Rattle.pp_graph.specs.KeyRows.{KeyRow, row_at, key_row}
+use Rattle.pp_graph.specs.KeyRows.{KeyRow, row_at}
+use Rattle.pp_graph.specs.Sampled.{key_row}
 use Rattle.pp_graph.specs.Ranks.{sum_of_name, is_heavy_number}
-use Rattle.pp_graph.specs.Trim.{all_report_keys, candidate_keys, is_heavy_key, shown_keys}
+use Rattle.pp_graph.specs.Sampled.{is_heavy_cum}
+use Rattle.pp_graph.specs.Trim.{all_report_keys, candidate_keys, shown_keys}
 use Rattle.pp_graph.specs.Trimmed.{int_sum, IsWholeRanking}
 use Rattle.pp_graph.proofs.KeyRowLemmas.{row_is}
 use Rattle.pp_graph.proofs.Ordering.{report_total, report_same}
-use Rattle.pp_account.proofs.Filtered.{each_once-filter}
+use Rattle.pp_graph.proofs.Filtered.{each_once-filter}
 use Rattle.pp_account.specs.declared.nodes.NodePortions.{NodePortions}
 use Rattle.pp_account.specs.Lines.{AreNodesOf}
 use Rattle.pp_account.specs.Nodes.{keys_portion, light_keys, past_limit, numbers_portion, numbers_where, is_where, node_portions}
@@ -47,11 +49,11 @@ same_filter t u (x ∷ xs) each = λ i. cond (each x i) (x ∷ same_filter t u x
 -- K1 are the heavy keys of those that occur
 pub candidates_are : (p : Profile) (f : Finders) (config : Config) (column : Option ℕ)
     → candidate_keys p f config column
-    ≡ filter (is_heavy_key key_cmp (total_of p f config column) config.presentation.nodefraction.billionths (report_samples p f config column)) (all_report_keys p f config column)
+    ≡ filter (is_heavy_cum key_cmp (total_of p f config column) config.presentation.nodefraction.billionths (report_samples p f config column)) (all_report_keys p f config column)
 candidates_are p f config column =
     let samples : List (Seen Written) = report_samples p f config column in
     each_once-filter (report_total samples config.presentation.sort) (report_same samples config.presentation.sort)
-    (is_heavy_key key_cmp (total_of p f config column) config.presentation.nodefraction.billionths samples) (all_keys samples)
+    (is_heavy_cum key_cmp (total_of p f config column) config.presentation.nodefraction.billionths samples) (all_keys samples)
 
 -- parts of numbers have what all of them have
 pub shown_below : (P : ℕ → Type 0) (limit : ℕ) (ns : List ℕ) → All P ns → All P (shown_keys limit ns)
@@ -110,7 +112,7 @@ module _ (l : Loaded) (v : Verdicts) (config : Config) (column : Option ℕ) (f 
   }
 
   abbrev heavy : Written → Bool
-  heavy = is_heavy_key key_cmp (total_of l.profile f config column) config.presentation.nodefraction.billionths samples
+  heavy = is_heavy_cum key_cmp (total_of l.profile f config column) config.presentation.nodefraction.billionths samples
 
   heavy_is : (n : ℕ) → n < length c.sums.names → is_heavy_number c.total config.presentation.nodefraction.billionths c.sums n ≡ heavy (key_at n)
   heavy_is n within = λ i. is_heavy (counted.total_is f holds i) config.presentation.nodefraction.billionths (ap (λ (r : KeyRow). r.cum) (row_of n within) i)

@@ -22,7 +22,7 @@ use Rattle.pp_count.specs.Table.{no_key, written_key}
 use Rattle.pp_count.proofs.Renaming.{same_found, list_any-renamed}
 use Rattle.pp_count.proofs.Ties.{tied}
 use Rattle.pp_graph.specs.Lists.{once_if}
-use Rattle.pp_graph.specs.Trim.{has_heavy_edge, has_light_edge, light_edge_count}
+use Rattle.pp_graph.specs.Sampled.{has_heavy_edge, has_light_edge, light_edge_count}
 use Rattle.pp_graph.specs.Cuts.{kept_flags, is_heavy_edge, is_light_edge}
 use Rattle.pp_graph.proofs.Chaining.{eqb-not}
 use Rattle.pp_graph.proofs.Flags.{kept_are, among}

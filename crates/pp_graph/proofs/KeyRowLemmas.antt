@@ -12,7 +12,8 @@ use Rattle.pp_count.specs.declared.sums.Sums.{Sums}
 use Rattle.pp_count.specs.Counts.{AreSumsOf}
 use Rattle.pp_count.specs.Sums.{Seen, flat, cum}
 use Rattle.pp_count.specs.Table.{no_key, written_key}
-use Rattle.pp_graph.specs.KeyRows.{row_at, key_row}
+use Rattle.pp_graph.specs.KeyRows.{row_at}
+use Rattle.pp_graph.specs.Sampled.{key_row}
 
 -- a name is a key of the profile
 pub name_is_key : (p : Profile) (names : List Key) (n : ℕ) (key : Key) → All (IsKeyOf p) names → slice_get names n ≡ Option.Some key → IsKeyOf p key

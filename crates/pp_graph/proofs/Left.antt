@@ -16,7 +16,7 @@ use Rattle.pp_count.specs.Table.{written_key}
 use Rattle.pp_graph.specs.declared.trimming.Trimmed.{Trimmed}
 use Rattle.pp_graph.specs.Cuts.{kept_flags, is_heavy_edge, is_light_edge}
 use Rattle.pp_graph.specs.Links.{AreEdgesLinked, live_edges}
-use Rattle.pp_graph.specs.Trim.{has_heavy_edge, light_edge_count}
+use Rattle.pp_graph.specs.Sampled.{has_heavy_edge, light_edge_count}
 use Rattle.pp_graph.specs.Trimmed.{HasNodes, IsRankedOf, IsTrimmedOf}
 use Rattle.pp_graph.proofs.Between.{heavy_between, light_count_is}
 

@@ -8,6 +8,9 @@ pub mod Starting
 pub mod Collecting
 pub mod RowOrder
 pub mod Ordering
+pub mod Filtered
+pub mod Listed
+pub mod Relisted
 pub mod Shown
 pub mod Summing
 pub mod Reported

@@ -13,7 +13,7 @@ use Rattle.pp_model.specs.declared.presentation.Sort.{Sort}
 use Rattle.pp_model.specs.declared.presentation.Sort.TheVariants as sorts
 use Rattle.pp_count.specs.Sums.{Seen, cum, flat}
 use Rattle.pp_count.specs.Ranks.{by_size}
-use Rattle.pp_graph.specs.Trim.{report_order}
+use Rattle.pp_graph.specs.Sampled.{report_order}
 
 module _ {K : Type 0} (order : K → K → Ordering) (value : K → ℤ) where
   -- by size first: for crates that list neighbours

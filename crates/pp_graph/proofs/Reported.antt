@@ -27,9 +27,11 @@ use Rattle.pp_count.specs.Counts.{total_of}
 use Rattle.pp_count.specs.Counted.{FitSums, IsCountedOf, report_samples}
 use Rattle.pp_graph.specs.declared.heavy.RankedRow.{RankedRow}
 use Rattle.pp_graph.specs.declared.ranking.Ranked.{Ranked}
-use Rattle.pp_graph.specs.Trim.{shown_keys, report_keys, candidate_keys, light_nodes, heavy_keys, light_count}
+use Rattle.pp_graph.specs.Sampled.{heavy_listed, light_count}
+use Rattle.pp_graph.specs.Trim.{shown_keys, report_keys, candidate_keys, light_nodes}
 use Rattle.pp_graph.specs.Trimmed.{int_sum, written_order, IsRankedOf}
 use Rattle.pp_graph.specs.Ranks.{sum_of_name, IsRankedRow, is_heavy_number, heavy_numbers, AreRanked}
+use Rattle.pp_graph.proofs.Relisted.{candidates_listed, light_counted}
 use Rattle.pp_graph.proofs.Shown.{All-with, All-map, shown_all, order_is, candidates_are, flats_are, light_is}
 
 sum_by-map : {A B : Type 0} (g : B → ℕ) (f : A → B) (xs : List A) → sum_by g (map f xs) ≡ sum_by (λ x. g (f x)) xs
@@ -126,17 +128,21 @@ module _ (l : Loaded) (v : Verdicts) (config : Config) (column : Option ℕ) (li
     keys = λ f h.
         ap (written_order l.profile c.sums.names) order
         ∙ order_is l.profile (report_samples l.profile f config column) c.sums counted.fits (counted.sums_are f h) config.presentation.sort c.total config.presentation.nodefraction.billionths rows light ranked limit
-        ∙ ap (λ n. shown_keys limit (heavy_keys key_cmp config.presentation.sort n config.presentation.nodefraction.billionths (report_samples l.profile f config column))) (counted.total_is f h);
+        ∙ ap (λ n. shown_keys limit (heavy_listed key_cmp config.presentation.sort n config.presentation.nodefraction.billionths (report_samples l.profile f config column))) (counted.total_is f h)
+        ∙ ap (shown_keys limit) (sym (candidates_listed l.profile f config column));
     shown_flat = λ f h.
         flats ∙ ap (λ xs. int_sum (map (sum_of_name c.sums.flat) xs)) order
         ∙ ap int_sum (flats_are l.profile (report_samples l.profile f config column) c.sums counted.fits (counted.sums_are f h) config.presentation.sort c.total config.presentation.nodefraction.billionths rows light ranked limit)
-        ∙ ap (λ n. int_sum (map (flat key_cmp (report_samples l.profile f config column)) (shown_keys limit (heavy_keys key_cmp config.presentation.sort n config.presentation.nodefraction.billionths (report_samples l.profile f config column))))) (counted.total_is f h);
+        ∙ ap (λ n. int_sum (map (flat key_cmp (report_samples l.profile f config column)) (shown_keys limit (heavy_listed key_cmp config.presentation.sort n config.presentation.nodefraction.billionths (report_samples l.profile f config column))))) (counted.total_is f h)
+        ∙ ap (λ ks. int_sum (map (flat key_cmp (report_samples l.profile f config column)) (shown_keys limit ks))) (sym (candidates_listed l.profile f config column));
     dropped_nodes = λ f h.
         light_is_t ∙ ranked.too_light
         ∙ light_is l.profile (report_samples l.profile f config column) c.sums counted.fits (counted.sums_are f h) c.total config.presentation.nodefraction.billionths
-        ∙ ap (λ n. light_count key_cmp n config.presentation.nodefraction.billionths (report_samples l.profile f config column)) (counted.total_is f h);
+        ∙ ap (λ n. light_count key_cmp n config.presentation.nodefraction.billionths (report_samples l.profile f config column)) (counted.total_is f h)
+        ∙ sym (light_counted l.profile f config column);
     candidates = λ f h.
         rows_are
         ∙ candidates_are l.profile (report_samples l.profile f config column) c.sums counted.fits (counted.sums_are f h) config.presentation.sort c.total config.presentation.nodefraction.billionths rows light ranked
-        ∙ ap (λ n. length (heavy_keys key_cmp config.presentation.sort n config.presentation.nodefraction.billionths (report_samples l.profile f config column))) (counted.total_is f h);
+        ∙ ap (λ n. length (heavy_listed key_cmp config.presentation.sort n config.presentation.nodefraction.billionths (report_samples l.profile f config column))) (counted.total_is f h)
+        ∙ ap length (sym (candidates_listed l.profile f config column));
   }

@@ -5,7 +5,8 @@ use Rattle.std.specs.declared.cmp.Ordering.TheVariants.{Less, Greater}
 use Rattle.pp_model.specs.declared.presentation.Sort.TheVariants as sorts
 use Rattle.pp_count.specs.Sums.{Seen, has}
 use Rattle.pp_count.specs.EdgeSums.{edge_occurs}
-use Rattle.pp_graph.specs.Trim.{node_limit, report_order, is_heavy_key, light_count, shown_keys, has_heavy_edge, light_edge_count}
+use Rattle.pp_graph.specs.Sampled.{has_heavy_edge, is_heavy_cum, light_count, light_edge_count, report_order}
+use Rattle.pp_graph.specs.Trim.{node_limit, shown_keys}
 
 -- 2 calls 1 for 5 and 3 for 3; 1 stands alone for -1
 abbrev two_callees : List (Seen ℕ)
@@ -25,10 +26,10 @@ cum_first : report_order nat_cmp sorts.Cum two_callees 2 1 ≡ Less
 cum_first = refl
 
 -- a cum of 3 is a third of 9, and less than two fifths
-third : is_heavy_key nat_cmp 9 333333333 two_callees 3 ≡ true
+third : is_heavy_cum nat_cmp 9 333333333 two_callees 3 ≡ true
 third = refl
 
-fifths : is_heavy_key nat_cmp 9 400000000 two_callees 3 ≡ false
+fifths : is_heavy_cum nat_cmp 9 400000000 two_callees 3 ≡ false
 fifths = refl
 
 dropped : light_count nat_cmp 9 400000000 two_callees ≡ 1

@@ -31,7 +31,8 @@ use Rattle.pp_count.proofs.Renaming.{all_keys_occur}
 use Rattle.pp_count.proofs.EachOnce.{each_once_is}
 use Rattle.pp_count.proofs.Ties.{tied, key_decides}
 use Rattle.pp_graph.specs.declared.heavy.RankedRow.{RankedRow}
-use Rattle.pp_graph.specs.Trim.{is_heavy_key, report_order, heavy_keys, light_count, shown_keys}
+use Rattle.pp_graph.specs.Sampled.{heavy_listed, is_heavy_cum, light_count, report_order}
+use Rattle.pp_graph.specs.Trim.{shown_keys}
 use Rattle.pp_graph.specs.Ranks.{row_cmp, row_key, larger_first, sum_of_name, major, minor, IsRankedRow, is_heavy_number, heavy_numbers, light_numbers, AreRanked}
 use Rattle.pp_graph.proofs.Ordering.{report_total, report_same}
 
@@ -102,20 +103,20 @@ module _ (p : Profile) (samples : List (Seen Written)) (sums : Sums) (fits : Fit
 
   -- a test of the names that says the same of all keys that tie
   module _ (total billionths : ℕ) where
-    heavy_same : (n : ℕ) → n < length sums.names → is_heavy_number total billionths sums n ≡ is_heavy_key key_cmp total billionths samples (key_at n)
+    heavy_same : (n : ℕ) → n < length sums.names → is_heavy_number total billionths sums n ≡ is_heavy_cum key_cmp total billionths samples (key_at n)
     heavy_same n within = ap (is_heavy total billionths) (cum_at n within)
 
-    heavy_names : map key_at (heavy_numbers total billionths sums (length sums.names)) ≡ filter (is_heavy_key key_cmp total billionths samples) names
+    heavy_names : map key_at (heavy_numbers total billionths sums (length sums.names)) ≡ filter (is_heavy_cum key_cmp total billionths samples) names
     heavy_names =
-        filter-map key_at (is_heavy_number total billionths sums) (is_heavy_key key_cmp total billionths samples) (range_with_len 0 (length sums.names))
+        filter-map key_at (is_heavy_number total billionths sums) (is_heavy_cum key_cmp total billionths samples) (range_with_len 0 (length sums.names))
         (All-with heavy_same (range_with_len 0 (length sums.names)) (range_below (length sums.names)))
-        ∙ ap (filter (is_heavy_key key_cmp total billionths samples)) names-range
+        ∙ ap (filter (is_heavy_cum key_cmp total billionths samples)) names-range
 
-    light_names : map key_at (light_numbers total billionths sums (length sums.names)) ≡ filter (λ k. not (is_heavy_key key_cmp total billionths samples k)) names
+    light_names : map key_at (light_numbers total billionths sums (length sums.names)) ≡ filter (λ k. not (is_heavy_cum key_cmp total billionths samples k)) names
     light_names =
-        filter-map key_at (λ n. not (is_heavy_number total billionths sums n)) (λ k. not (is_heavy_key key_cmp total billionths samples k)) (range_with_len 0 (length sums.names))
+        filter-map key_at (λ n. not (is_heavy_number total billionths sums n)) (λ k. not (is_heavy_cum key_cmp total billionths samples k)) (range_with_len 0 (length sums.names))
         (All-with (λ n within. ap not (heavy_same n within)) (range_with_len 0 (length sums.names)) (range_below (length sums.names)))
-        ∙ ap (filter (λ k. not (is_heavy_key key_cmp total billionths samples k))) names-range
+        ∙ ap (filter (λ k. not (is_heavy_cum key_cmp total billionths samples k))) names-range
 
   members : (test : Written → Bool) (k : Written) → list_any (eq_by_cmp key_cmp k) (filter test (all_keys samples)) ≡ list_any (eq_by_cmp key_cmp k) (filter test names)
   members test k =
@@ -129,9 +130,9 @@ module _ (p : Profile) (samples : List (Seen Written)) (sums : Sums) (fits : Fit
   pub light_is : (total billionths : ℕ) → length (light_numbers total billionths sums (length sums.names)) ≡ light_count key_cmp total billionths samples
   light_is total billionths =
       sym (length-map (light_numbers total billionths sums (length sums.names)) key_at) ∙ ap length (light_names total billionths)
-      ∙ length-from_keys (eq_by_cmp_equiv key_cmp_total) (filter (λ k. not (is_heavy_key key_cmp total billionths samples k)) names)
-      (filter (λ k. not (is_heavy_key key_cmp total billionths samples k)) (all_keys samples))
-      (distinct_names (λ k. not (is_heavy_key key_cmp total billionths samples k))) (λ q. sym (members (λ k. not (is_heavy_key key_cmp total billionths samples k)) q))
+      ∙ length-from_keys (eq_by_cmp_equiv key_cmp_total) (filter (λ k. not (is_heavy_cum key_cmp total billionths samples k)) names)
+      (filter (λ k. not (is_heavy_cum key_cmp total billionths samples k)) (all_keys samples))
+      (distinct_names (λ k. not (is_heavy_cum key_cmp total billionths samples k))) (λ q. sym (members (λ k. not (is_heavy_cum key_cmp total billionths samples k)) q))
 
   -- rows are ordered as their keys are
   rows_order : (sort : Sort) (a b : RankedRow) → IsRankedRow p sort sums a → IsRankedRow p sort sums b → report_order key_cmp sort samples (row_key a) (row_key b) ≡ row_cmp a b
@@ -172,20 +173,20 @@ module _ (p : Profile) (samples : List (Seen Written)) (sums : Sums) (fits : Fit
     keys_of_rows : (rs : List RankedRow) → All (IsRankedRow p sort sums) rs → map row_key rs ≡ map key_at (map (λ (r : RankedRow). r.number) rs)
     keys_of_rows rs of = map-same row_key (λ (r : RankedRow). key_at r.number) rs (All-with {P = IsRankedRow p sort sums} (λ r w. w.key) rs of) ∙ sym (map-map key_at (λ (r : RankedRow). r.number) rs)
 
-    permuted : IsPermutation (filter (is_heavy_key key_cmp total billionths samples) names) (map row_key rows)
+    permuted : IsPermutation (filter (is_heavy_cum key_cmp total billionths samples) names) (map row_key rows)
     permuted =
         subst (λ xs. IsPermutation xs (map row_key rows)) (heavy_names total billionths)
         (subst (λ ys. IsPermutation (map key_at (heavy_numbers total billionths sums (length sums.names))) ys) (sym (keys_of_rows rows ranked.rows_are))
         (IsPermutation-map key_at (heavy_numbers total billionths sums (length sums.names)) (map (λ (r : RankedRow). r.number) rows) ranked.numbers))
 
     -- the heavy keys in report order are those of the rows
-    pub heavy_are : heavy_keys key_cmp sort total billionths samples ≡ map row_key rows
+    pub heavy_are : heavy_listed key_cmp sort total billionths samples ≡ map row_key rows
     heavy_are =
         each_once_is (report_total samples sort) (report_same samples sort) (eq_by_cmp key_cmp) key_decides
-        (filter (is_heavy_key key_cmp total billionths samples) (all_keys samples)) (map row_key rows) keys_sorted
-        (IsDistinct-IsPermutation (eq_by_cmp key_cmp) (eq_by_cmp_equiv key_cmp_total).symm (filter (is_heavy_key key_cmp total billionths samples) names) (map row_key rows) permuted
-        (distinct_names (is_heavy_key key_cmp total billionths samples)))
-        (λ k. members (is_heavy_key key_cmp total billionths samples) k ∙ list_any-IsPermutation (eq_by_cmp key_cmp k) (filter (is_heavy_key key_cmp total billionths samples) names) (map row_key rows) permuted)
+        (filter (is_heavy_cum key_cmp total billionths samples) (all_keys samples)) (map row_key rows) keys_sorted
+        (IsDistinct-IsPermutation (eq_by_cmp key_cmp) (eq_by_cmp_equiv key_cmp_total).symm (filter (is_heavy_cum key_cmp total billionths samples) names) (map row_key rows) permuted
+        (distinct_names (is_heavy_cum key_cmp total billionths samples)))
+        (λ k. members (is_heavy_cum key_cmp total billionths samples) k ∙ list_any-IsPermutation (eq_by_cmp key_cmp k) (filter (is_heavy_cum key_cmp total billionths samples) names) (map row_key rows) permuted)
 
     shown-map : {A B : Type 0} (g : A → B) (limit : ℕ) (xs : List A) → shown_keys limit (map g xs) ≡ map g (shown_keys limit xs)
     shown-map g limit xs = elim (eqb limit 0) as (λ b. cond b (map g xs) (take limit (map g xs)) ≡ map g (cond b xs (take limit xs))) [
@@ -194,16 +195,16 @@ module _ (p : Profile) (samples : List (Seen Written)) (sums : Sums) (fits : Fit
     ]
 
     -- the rows that are shown are those of the keys that are
-    pub order_is : (limit : ℕ) → map key_at (map (λ (r : RankedRow). r.number) (shown_keys limit rows)) ≡ shown_keys limit (heavy_keys key_cmp sort total billionths samples)
+    pub order_is : (limit : ℕ) → map key_at (map (λ (r : RankedRow). r.number) (shown_keys limit rows)) ≡ shown_keys limit (heavy_listed key_cmp sort total billionths samples)
     order_is limit =
         sym (keys_of_rows (shown_keys limit rows) (shown_all (IsRankedRow p sort sums) limit rows ranked.rows_are))
         ∙ sym (shown-map row_key limit rows) ∙ ap (shown_keys limit) (sym heavy_are)
 
-    pub candidates_are : length rows ≡ length (heavy_keys key_cmp sort total billionths samples)
+    pub candidates_are : length rows ≡ length (heavy_listed key_cmp sort total billionths samples)
     candidates_are = sym (length-map rows row_key) ∙ ap length (sym heavy_are)
 
     -- their flats
-    pub flats_are : (limit : ℕ) → map (sum_of_name sums.flat) (map (λ (r : RankedRow). r.number) (shown_keys limit rows)) ≡ map (flat key_cmp samples) (shown_keys limit (heavy_keys key_cmp sort total billionths samples))
+    pub flats_are : (limit : ℕ) → map (sum_of_name sums.flat) (map (λ (r : RankedRow). r.number) (shown_keys limit rows)) ≡ map (flat key_cmp samples) (shown_keys limit (heavy_listed key_cmp sort total billionths samples))
     flats_are limit =
         map-map (sum_of_name sums.flat) (λ (r : RankedRow). r.number) (shown_keys limit rows)
         ∙ map-same (λ (r : RankedRow). sum_of_name sums.flat r.number) (λ (r : RankedRow). flat key_cmp samples (key_at r.number)) (shown_keys limit rows)

@@ -16,7 +16,8 @@ use Rattle.pp_count.specs.Ranks.{each_once, is_heavy}
 use Rattle.pp_count.specs.Seeing.{HoldsFilters}
 use Rattle.pp_count.specs.Sums.{Seen, cum, flat, all_keys}
 use Rattle.pp_graph.specs.declared.ranking.Ranked.{Ranked}
-use Rattle.pp_graph.specs.Trim.{is_heavy_key, report_order, report_keys, first_report_keys, shown_keys}
+use Rattle.pp_graph.specs.Sampled.{is_heavy_cum, report_order}
+use Rattle.pp_graph.specs.Trim.{report_keys, first_report_keys, shown_keys}
 use Rattle.pp_graph.specs.Trimmed.{int_sum, IsRankedOf, IsWholeRanking}
 
 filter-everything : {X : Type 0} (t : X → Bool) → ((x : X) → t x ≡ true) → (xs : List X) → filter t xs ≡ xs
@@ -66,8 +67,8 @@ module _ (l : Loaded) (v : Verdicts) (config : Config) (column : Option ℕ) (c 
       let samples : List (Seen Written) = report_samples l.profile f config column in
       let total : ℕ = total_of l.profile f config column in
       ap (λ ks. shown_keys limit (each_once (report_order key_cmp config.presentation.sort samples) ks))
-      (filter-everything (is_heavy_key key_cmp total none.billionths samples)
-      (λ k. ap (λ n. is_heavy total n (cum key_cmp samples k)) is_none ∙ light-none total (cum key_cmp samples k)) (all_keys samples))
+      (filter-everything (is_heavy_cum key_cmp total none.billionths samples)
+      (λ k. ap (λ n. is_heavy total n (cum key_cmp samples k)) is_none ∙ light-none total (cum key_cmp samples k)) (each_once key_cmp (all_keys samples)))
 
   pub ranked_free : (limit : ℕ) (t : Ranked) → IsRankedOf l v free column limit c t → IsWholeRanking l v config column limit c t
   ranked_free limit t is = record {

@@ -3,12 +3,12 @@ use Rattle.std.specs.Prelude.{ℕ, ◌<◌, ◌^◌, ℤ, pos, nat_abs, ◌+ℤ�
 use Rattle.std.specs.List.{sum_by}
 use Rattle.pp_model.specs.declared.profile.Profile.{Profile}
 use Rattle.pp_model.specs.FrameTexts.{Written}
-use Rattle.pp_grain.specs.Keys.{key_cmp, IsKeyOf}
+use Rattle.pp_grain.specs.Keys.{IsKeyOf}
 use Rattle.pp_grain.specs.Naming.{name_text}
 use Rattle.pp_count.specs.declared.sums.Sums.{Sums}
 use Rattle.pp_count.specs.Counted.{FitSums}
-use Rattle.pp_count.specs.Sums.{Seen, flat, cum}
 use Rattle.pp_count.specs.Table.{written_key}
+use Rattle.pp_graph.specs.Figures.{Figures}
 use Rattle.pp_graph.specs.Trimmed.{int_sum}
 
 -- What a row says: the two sums of a key, and its name.
@@ -27,13 +27,9 @@ running_text flat text before [] = []
 running_text flat text before (x ∷ xs) =
     text (before +ℤ flat x) x ++ running_text flat text (before +ℤ flat x) xs
 
--- the row of a key over these samples
-abbrev pub key_row : List (Seen Written) → Written → KeyRow
-key_row samples k = record {
-  flat = flat key_cmp samples k;
-  cum = cum key_cmp samples k;
-  name = name_text k;
-}
+-- the row of a key
+abbrev pub row_of : Figures → Written → KeyRow
+row_of g k = record { flat = g.flat_of k; cum = g.cum_of k; name = name_text k }
 
 -- the row of the name with this number, by the sums that were counted
 abbrev pub row_at : Profile → Sums → ℕ → KeyRow
@@ -50,6 +46,6 @@ pub record CanShow (p : Profile) (sums : Sums) (order : List ℕ) : Type 0 where
   pub below : All (λ n. n < length sums.names) order
   pub small : sum_by (λ n. nat_abs (slice_index_or sums.flat n (pos 0))) order < 2 ^ 63
 
--- what the flats of keys add up to, over these samples
-abbrev pub flat_sum : List (Seen Written) → List Written → ℤ
-flat_sum samples keys = int_sum (map (flat key_cmp samples) keys)
+-- what the flats of keys add up to
+abbrev pub flat_sum : Figures → List Written → ℤ
+flat_sum g keys = int_sum (map g.flat_of keys)

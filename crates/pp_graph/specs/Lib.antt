@@ -1,3 +1,4 @@
+pub mod Figures
 pub mod Trim
 pub mod Neighbours
 pub mod Lists
@@ -8,3 +9,4 @@ pub mod Trimmed
 pub mod Ranks
 pub mod Cuts
 pub mod KeyRows
+pub mod Sampled

@@ -1,21 +1,19 @@
--- Which keys and edges a report shows, and in which order.
+-- Which keys and edges a report shows, and in which order: what follows from its figures.
 use Rattle.std.specs.Prelude.{ℕ, ◌==◌, ℤ, pos, negsuc, Bool, not, ◌&&◌, List, length, take, if◌then◌else◌, Option}
 use Rattle.std.specs.List.{filter, sum_by}
-use Rattle.std.specs.Ordering.{then_cmp, eq_by_cmp}
-use Rattle.std.specs.Set.{distinct_count}
+use Rattle.std.specs.Ordering.{then_cmp}
 use Rattle.std.specs.declared.cmp.Ordering.{Ordering}
 use Rattle.pp_model.specs.declared.config.Config.{Config}
+use Rattle.pp_model.specs.declared.presentation.Presentation.{Presentation}
 use Rattle.pp_model.specs.declared.presentation.Sort.{Sort}
 use Rattle.pp_model.specs.declared.presentation.Sort.TheVariants as sorts
 use Rattle.pp_model.specs.declared.profile.Profile.{Profile}
 use Rattle.pp_model.specs.Finders.{Finders}
 use Rattle.pp_model.specs.FrameTexts.{Written}
 use Rattle.pp_grain.specs.Keys.{key_cmp}
-use Rattle.pp_count.specs.Sums.{Seen, all_keys, has, cum, flat}
-use Rattle.pp_count.specs.EdgeSums.{edge_occurs, edge_sum}
-use Rattle.pp_count.specs.Counts.{total_of}
-use Rattle.pp_count.specs.Counted.{report_samples}
+use Rattle.pp_count.specs.Sums.{has}
 use Rattle.pp_count.specs.Ranks.{is_heavy, by_size, each_once}
+use Rattle.pp_graph.specs.Figures.{Figures, figures}
 
 -- The limit that `nodecount` sets, 0 for none: its own number, and for -1 the report's.
 abbrev pub node_limit : ℤ → ℕ → ℕ
@@ -26,54 +24,54 @@ node_limit (negsuc _) own = own
 abbrev pub shown_keys : {K : Type 0} → ℕ → List K → List K
 shown_keys limit heavy = if limit == 0 then heavy else take limit heavy
 
-module _ {K : Type 0} (order : K → K → Ordering) where
-  -- report order: by the one sum, then by the other, then by the keys themselves
-  abbrev pub report_order : Sort → List (Seen K) → K → K → Ordering
-  report_order sorts.Flat samples =
-      then_cmp (by_size (flat order samples)) (then_cmp (by_size (cum order samples)) order)
-  report_order sorts.Cum samples =
-      then_cmp (by_size (cum order samples)) (then_cmp (by_size (flat order samples)) order)
+-- by the one sum, then by the other, then by the keys themselves
+abbrev pub sums_order : {K : Type 0} → Sort → (K → ℤ) → (K → ℤ) → (K → K → Ordering)
+    → K → K → Ordering
+sums_order sorts.Flat flat cum order = then_cmp (by_size flat) (then_cmp (by_size cum) order)
+sums_order sorts.Cum flat cum order = then_cmp (by_size cum) (then_cmp (by_size flat) order)
 
-  -- the key is heavy by its cum
-  abbrev pub is_heavy_key : ℕ → ℕ → List (Seen K) → K → Bool
-  is_heavy_key total billionths samples k = is_heavy total billionths (cum order samples k)
+module _ (g : Figures) where
+  -- report order
+  abbrev pub order_by : Sort → Written → Written → Ordering
+  order_by sort = sums_order sort g.flat_of g.cum_of key_cmp
 
-  -- the keys that occur and are heavy, in report order
-  abbrev pub heavy_keys : Sort → ℕ → ℕ → List (Seen K) → List K
-  heavy_keys sort total billionths samples =
-      each_once (report_order sort samples)
-      (filter (is_heavy_key total billionths samples) (all_keys samples))
+  -- the keys that occur, in report order
+  abbrev pub ordered_keys : Sort → List Written
+  ordered_keys sort = each_once (order_by sort) g.keys
 
-  -- how many keys occur and are not heavy
-  abbrev pub light_count : ℕ → ℕ → List (Seen K) → ℕ
-  light_count total billionths samples =
-      distinct_count (eq_by_cmp order)
-      (filter (λ k. not (is_heavy_key total billionths samples k)) (all_keys samples))
+  -- the pair occurs over the keys that are kept, and its sum is at least this fraction of the total
+  abbrev pub is_heavy_pair : (Written → Bool) → ℕ → Written → Written → Bool
+  is_heavy_pair kept billionths caller callee =
+      g.occurs_pair kept caller callee && is_heavy g.total billionths (g.sum_of_pair kept caller callee)
 
-  -- the pair occurs over the keys that are kept, and its edge is heavy
-  abbrev pub has_heavy_edge : (K → Bool) → List (Seen K) → ℕ → ℕ → K → K → Bool
-  has_heavy_edge kept samples total billionths caller callee =
-      edge_occurs order kept samples caller callee
-      && is_heavy total billionths (edge_sum order kept samples caller callee)
+  -- the pair occurs over the keys that are kept, and its sum is less
+  abbrev pub is_light_pair : (Written → Bool) → ℕ → Written → Written → Bool
+  is_light_pair kept billionths caller callee =
+      g.occurs_pair kept caller callee
+      && not (is_heavy g.total billionths (g.sum_of_pair kept caller callee))
 
-  -- the pair occurs over the keys that are kept, and its edge is not heavy
-  abbrev pub has_light_edge : (K → Bool) → List (Seen K) → ℕ → ℕ → K → K → Bool
-  has_light_edge kept samples total billionths caller callee =
-      edge_occurs order kept samples caller callee
-      && not (is_heavy total billionths (edge_sum order kept samples caller callee))
+  module _ (presentation : Presentation) where
+    -- whether the key's cum is at least nodefraction of the total
+    abbrev pub is_heavy_key : Written → Bool
+    is_heavy_key k = is_heavy g.total presentation.nodefraction.billionths (g.cum_of k)
 
-  -- how many pairs of these keys occur over them and have an edge that is not heavy
-  abbrev pub light_edge_count : List K → List (Seen K) → ℕ → ℕ → ℕ
-  light_edge_count keys samples total billionths =
-      sum_by (λ caller. length (filter
-      (has_light_edge (λ k. has order k keys) samples total billionths caller) keys)) keys
+    -- the heavy keys, in report order
+    abbrev pub heavy_keys : List Written
+    heavy_keys = each_once (order_by presentation.sort) (filter is_heavy_key g.keys)
+
+    -- how many keys are not heavy
+    abbrev pub light_key_count : ℕ
+    light_key_count = length (filter (λ k. not (is_heavy_key k)) g.keys)
+
+    -- how many pairs of these keys occur over them and are too light
+    abbrev pub light_pair_count : List Written → ℕ
+    light_pair_count shown =
+        sum_by (λ caller. length (filter
+        (is_light_pair (λ k. has key_cmp k shown) presentation.edgefraction.billionths caller) shown)) shown
 
 -- The keys that a report may show: those that occur and are heavy, in report order.
 abbrev pub candidate_keys : Profile → Finders → Config → Option ℕ → List Written
-candidate_keys p f config column =
-    heavy_keys key_cmp config.presentation.sort
-    (total_of p f config column) config.presentation.nodefraction.billionths
-    (report_samples p f config column)
+candidate_keys p f config column = heavy_keys (figures p f config column) config.presentation
 
 -- The keys that it shows, in report order: the first of these, where 0 is no limit.
 abbrev pub report_keys : Profile → Finders → Config → Option ℕ → ℕ → List Written
@@ -81,9 +79,7 @@ report_keys p f config column limit = shown_keys limit (candidate_keys p f confi
 
 -- All keys that occur, in report order.
 abbrev pub all_report_keys : Profile → Finders → Config → Option ℕ → List Written
-all_report_keys p f config column =
-    let samples = report_samples p f config column in
-    each_once (report_order key_cmp config.presentation.sort samples) (all_keys samples)
+all_report_keys p f config column = ordered_keys (figures p f config column) config.presentation.sort
 
 -- The first of them, where 0 is no limit.
 abbrev pub first_report_keys : Profile → Finders → Config → Option ℕ → ℕ → List Written
@@ -95,13 +91,10 @@ is_report_key p f config column limit k = has key_cmp k (report_keys p f config 
 
 -- how many keys occur and are too light to be shown
 abbrev pub light_nodes : Profile → Finders → Config → Option ℕ → ℕ
-light_nodes p f config column =
-    light_count key_cmp (total_of p f config column) config.presentation.nodefraction.billionths
-    (report_samples p f config column)
+light_nodes p f config column = light_key_count (figures p f config column) config.presentation
 
 -- how many pairs occur over the keys that are shown, and have an edge that is too light
 abbrev pub light_edges : Profile → Finders → Config → Option ℕ → ℕ → ℕ
 light_edges p f config column limit =
-    light_edge_count key_cmp (report_keys p f config column limit)
-    (report_samples p f config column) (total_of p f config column)
-    config.presentation.edgefraction.billionths
+    light_pair_count (figures p f config column) config.presentation
+    (report_keys p f config column limit)

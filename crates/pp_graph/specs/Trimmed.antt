@@ -8,21 +8,18 @@ use Rattle.pp_model.specs.declared.profile.Profile.{Profile}
 use Rattle.pp_model.specs.Finders.{Finders}
 use Rattle.pp_model.specs.FrameTexts.{Written}
 use Rattle.pp_grain.specs.declared.key.Key.{Key}
-use Rattle.pp_grain.specs.Keys.{key_cmp}
 use Rattle.pp_count.specs.declared.counted.Counted.{Counted}
 use Rattle.pp_count.specs.declared.edge.Edge.{Edge}
 use Rattle.pp_count.specs.declared.sums.Sums.{Sums}
-use Rattle.pp_count.specs.Sums.{Seen, flat}
 use Rattle.pp_count.specs.Seeing.{HoldsFilters}
-use Rattle.pp_count.specs.EdgeSums.{edge_sum, edges_between}
-use Rattle.pp_count.specs.Counts.{total_of}
-use Rattle.pp_count.specs.Counted.{report_samples}
+use Rattle.pp_count.specs.EdgeSums.{edges_between}
 use Rattle.pp_count.specs.Table.{written_key}
 use Rattle.pp_graph.specs.declared.node.Node.{Node}
 use Rattle.pp_graph.specs.declared.ranking.Ranked.{Ranked}
 use Rattle.pp_graph.specs.declared.trimming.Trimmed.{Trimmed}
+use Rattle.pp_graph.specs.Figures.{figures}
 use Rattle.pp_graph.specs.Links.{EdgeLinks, AreEdgesLinked, live_edges}
-use Rattle.pp_graph.specs.Trim.{candidate_keys, first_report_keys, report_keys, is_report_key, light_nodes, light_edges, has_heavy_edge}
+use Rattle.pp_graph.specs.Trim.{candidate_keys, first_report_keys, report_keys, is_report_key, light_nodes, light_edges, is_heavy_pair}
 
 -- the sum of numbers
 abbrev pub int_sum : List ℤ → ℤ
@@ -43,7 +40,7 @@ pub record IsRankedOf (l : Loaded) (v : Verdicts) (config : Config) (column : Op
       → written_order l.profile c.sums.names t.order ≡ report_keys l.profile f config column limit
   pub shown_flat : (f : Finders) → HoldsFilters l v config.filtering f
       → t.shown_flat
-      ≡ int_sum (map (flat key_cmp (report_samples l.profile f config column))
+      ≡ int_sum (map (figures l.profile f config column).flat_of
       (report_keys l.profile f config column limit))
   pub dropped_nodes : (f : Finders) → HoldsFilters l v config.filtering f
       → t.dropped_nodes ≡ light_nodes l.profile f config column
@@ -61,7 +58,7 @@ pub record IsWholeRanking (l : Loaded) (v : Verdicts) (config : Config) (column 
       → written_order l.profile c.sums.names t.order ≡ first_report_keys l.profile f config column limit
   pub shown_flat : (f : Finders) → HoldsFilters l v config.filtering f
       → t.shown_flat
-      ≡ int_sum (map (flat key_cmp (report_samples l.profile f config column))
+      ≡ int_sum (map (figures l.profile f config column).flat_of
       (first_report_keys l.profile f config column limit))
 
 -- the node of a name's number, with the sums of the name
@@ -73,13 +70,12 @@ IsNodeOf sums n node =
 -- the edge that the report shows between two keys, as a list of none or one between these numbers
 abbrev pub shown_edges : Profile → Finders → Config → Option ℕ → ℕ → List Key → ℕ → ℕ → List Edge
 shown_edges p f config column limit names a b =
-    let samples = report_samples p f config column in
+    let g = figures p f config column in
     let kept = is_report_key p f config column limit in
     let caller = written_key p names a in
     let callee = written_key p names b in
-    if has_heavy_edge key_cmp kept samples (total_of p f config column)
-    config.presentation.edgefraction.billionths caller callee
-    then record { from = a; to = b; value = edge_sum key_cmp kept samples caller callee } ∷ []
+    if is_heavy_pair g kept config.presentation.edgefraction.billionths caller callee
+    then record { from = a; to = b; value = g.sum_of_pair kept caller callee } ∷ []
     else []
 
 -- The graph has a node for each name, with its sums.

@@ -28,7 +28,8 @@ use Rattle.pp_count.specs.Counts.{filtered_samples, total_of}
 use Rattle.pp_count.specs.Counted.{report_samples}
 use Rattle.pp_count.specs.Seeing.{filtered_stack, seen, seen_with, seen_samples}
 use Rattle.pp_count.specs.Sums.{Seen, flat, sum_where}
-use Rattle.pp_graph.specs.Trim.{all_report_keys, candidate_keys, report_keys, shown_keys, is_heavy_key}
+use Rattle.pp_graph.specs.Sampled.{is_heavy_cum}
+use Rattle.pp_graph.specs.Trim.{all_report_keys, candidate_keys, report_keys, shown_keys}
 use Rattle.pp_graph.specs.Trimmed.{int_sum}
 use Rattle.pp_laws.specs.Figures.{has_frames}
 use Rattle.pp_laws.proofs.AddingUp.{all_counted}
@@ -326,7 +327,7 @@ pub nodes_add_up : NodesAddUp
 nodes_add_up p f config column limit =
     let samples : List (Seen Written) = report_samples p f config column in
     let value : Written → ℤ = flat key_cmp samples in
-    let heavy : Written → Bool = is_heavy_key key_cmp (total_of p f config column) config.presentation.nodefraction.billionths samples in
+    let heavy : Written → Bool = is_heavy_cum key_cmp (total_of p f config column) config.presentation.nodefraction.billionths samples in
     let keys : List Written = all_report_keys p f config column in
     let shown : List Written = candidate_keys p f config column in
     let are : shown ≡ filter heavy keys = candidates_are p f config column in

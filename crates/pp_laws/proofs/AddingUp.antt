@@ -18,12 +18,13 @@ use Rattle.pp_count.specs.Counted.{report_samples}
 use Rattle.pp_count.specs.Ranks.{each_once, is_heavy}
 use Rattle.pp_count.proofs.EachOnce.{same_ties}
 use Rattle.pp_count.proofs.Ties.{key_decides}
-use Rattle.pp_graph.specs.Trim.{is_heavy_key, all_report_keys, report_order}
+use Rattle.pp_graph.specs.Sampled.{is_heavy_cum, report_order}
+use Rattle.pp_graph.specs.Trim.{all_report_keys}
 use Rattle.pp_graph.specs.Trimmed.{int_sum}
 use Rattle.pp_graph.proofs.Ordering.{report_total, report_same}
 use Rattle.pp_laws.specs.Figures.{has_frames}
 use Rattle.pp_laws.specs.Flats.{FlatsAddUp, RowsAddUp, AllKeysAddUp}
-use Rattle.pp_laws.proofs.Listed.{each_once_apart, each_once_members}
+use Rattle.pp_graph.proofs.Listed.{each_once_apart, each_once_members}
 use Rattle.pp_count.proofs.Renaming.{all_keys_occur}
 use Rattle.pp_laws.proofs.Sampling.{flats_add_up, sum_where-weighed}
 
@@ -51,7 +52,7 @@ rows_counted p f config column none =
     let samples = report_samples p f config column in
     let order = report_order key_cmp config.presentation.sort samples in
     let ties : eq_by_cmp order ≡ eq_by_cmp key_cmp = order_ties config.presentation.sort samples in
-    let heavy : Written → Bool = is_heavy_key key_cmp (total_of p f config column) config.presentation.nodefraction.billionths samples in
+    let heavy : Written → Bool = is_heavy_cum key_cmp (total_of p f config column) config.presentation.nodefraction.billionths samples in
     let keys : List Written = each_once order (filter heavy (all_keys samples)) in
     let apart : IsDistinct (eq_by_cmp key_cmp) keys = subst (λ e. IsDistinct e keys) ties (each_once_apart order (filter heavy (all_keys samples))) in
     let known : (k : Written) → occurs key_cmp samples k ≡ true → list_any (eq_by_cmp key_cmp k) keys ≡ true = λ k is.

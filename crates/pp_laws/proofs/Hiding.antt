@@ -7,10 +7,11 @@ use Rattle.pp_count.specs.Sums.{Seen, cum, all_keys}
 use Rattle.pp_count.specs.Counts.{total_of}
 use Rattle.pp_count.specs.Counted.{report_samples}
 use Rattle.pp_count.specs.Ranks.{each_once}
-use Rattle.pp_graph.specs.Trim.{is_heavy_key, report_order, shown_keys}
+use Rattle.pp_graph.specs.Sampled.{is_heavy_cum, report_order}
+use Rattle.pp_graph.specs.Trim.{shown_keys}
 use Rattle.pp_graph.proofs.Ordering.{report_total, report_same}
 use Rattle.pp_laws.specs.Rows.{TrimmingHides}
-use Rattle.pp_account.proofs.Filtered.{each_once-filter}
+use Rattle.pp_graph.proofs.Filtered.{each_once-filter}
 use Rattle.pp_laws.proofs.AddingUp.{heavy_always}
 
 kept_all : {X : Type 0} (test : X → Bool) (xs : List X) → ((x : X) → test x ≡ true) → filter test xs ≡ xs
@@ -22,11 +23,11 @@ trimming_hides none p f config column limit zero =
     let samples : List (Seen Written) = report_samples p f config column in
     let total : ℕ = total_of p f config column in
     let order = report_order key_cmp config.presentation.sort samples in
-    let heavy : Written → Bool = is_heavy_key key_cmp total config.presentation.nodefraction.billionths samples in
+    let heavy : Written → Bool = is_heavy_cum key_cmp total config.presentation.nodefraction.billionths samples in
     record {
       rows = ap (shown_keys limit)
           (each_once-filter (report_total samples config.presentation.sort) (report_same samples config.presentation.sort) heavy (all_keys samples)
-          ∙ ap (λ ks. filter heavy (each_once order ks)) (sym (kept_all (is_heavy_key key_cmp total none.billionths samples) (all_keys samples) (λ k. heavy_always total none.billionths (cum key_cmp samples k) zero))));
+          ∙ ap (λ ks. filter heavy (each_once order ks)) (sym (kept_all (is_heavy_cum key_cmp total none.billionths samples) (all_keys samples) (λ k. heavy_always total none.billionths (cum key_cmp samples k) zero))));
       samples = refl;
       total = refl;
     }

@@ -1,6 +1,5 @@
 pub mod IntSums
 pub mod Sampling
-pub mod Listed
 pub mod AddingUp
 pub mod Within
 pub mod Parting

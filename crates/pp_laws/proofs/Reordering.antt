@@ -25,12 +25,13 @@ use Rattle.pp_count.specs.Counted.{report_samples}
 use Rattle.pp_count.specs.Ranks.{by_size, each_once, is_heavy}
 use Rattle.pp_count.proofs.Renaming.{all_keys_occur}
 use Rattle.pp_count.proofs.Ties.{tied}
-use Rattle.pp_graph.specs.Trim.{is_heavy_key, report_order, shown_keys}
+use Rattle.pp_graph.specs.Sampled.{is_heavy_cum, report_order}
+use Rattle.pp_graph.specs.Trim.{shown_keys}
 use Rattle.pp_graph.proofs.Ordering.{report_total, report_same}
 use Rattle.pp_laws.specs.Order.{HaveSameFigures, with_samples, OrderIsFree}
 use Rattle.pp_laws.proofs.IntSums.{sum_permuted}
 use Rattle.pp_laws.proofs.Sampling.{part, sum_seen}
-use Rattle.pp_laws.proofs.Listed.{each_once_same}
+use Rattle.pp_graph.proofs.Listed.{each_once_same}
 use Rattle.pp_laws.proofs.AddingUp.{order_ties}
 
 -- the sum over the items that a filter leaves, as one over all
@@ -66,11 +67,11 @@ same_order sorts.Cum ss ts flats cums = λ i. then_cmp (by_size (cums i)) (then_
 same_rows : (sort : Sort) (total other billionths : ℕ) (ss ts : List (Seen Written)) → total ≡ other
     → ((k : Written) → flat key_cmp ss k ≡ flat key_cmp ts k) → ((k : Written) → cum key_cmp ss k ≡ cum key_cmp ts k)
     → ((k : Written) → occurs key_cmp ss k ≡ occurs key_cmp ts k)
-    → each_once (report_order key_cmp sort ss) (filter (is_heavy_key key_cmp total billionths ss) (all_keys ss))
-    ≡ each_once (report_order key_cmp sort ts) (filter (is_heavy_key key_cmp other billionths ts) (all_keys ts))
+    → each_once (report_order key_cmp sort ss) (filter (is_heavy_cum key_cmp total billionths ss) (all_keys ss))
+    ≡ each_once (report_order key_cmp sort ts) (filter (is_heavy_cum key_cmp other billionths ts) (all_keys ts))
 same_rows sort total other billionths ss ts totals flats cums occur =
     let order = report_order key_cmp sort ts in
-    let heavy : Written → Bool = is_heavy_key key_cmp other billionths ts in
+    let heavy : Written → Bool = is_heavy_cum key_cmp other billionths ts in
     let ties : eq_by_cmp order ≡ eq_by_cmp key_cmp = order_ties sort ts in
     let among : (xs : List Written) (k : Written) → list_any (eq_by_cmp key_cmp k) (filter heavy xs) ≡ (heavy k && list_any (eq_by_cmp key_cmp k) xs) = λ xs k.
     any-filter_same (eq_by_cmp key_cmp k) heavy (heavy k) (λ q e. ap heavy (sym (tied k q e))) xs in

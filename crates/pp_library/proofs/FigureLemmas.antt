@@ -21,7 +21,8 @@ use Rattle.pp_count.specs.Counted.{IsCountedOf, report_samples}
 use Rattle.pp_count.specs.Seeing.{HoldsFilters}
 use Rattle.pp_count.specs.Sums.{Seen}
 use Rattle.pp_graph.specs.declared.ranking.Ranked.{Ranked}
-use Rattle.pp_graph.specs.KeyRows.{KeyRow, row_at, key_row}
+use Rattle.pp_graph.specs.KeyRows.{KeyRow, row_at}
+use Rattle.pp_graph.specs.Sampled.{key_row}
 use Rattle.pp_graph.specs.Trim.{first_report_keys, node_limit}
 use Rattle.pp_graph.specs.Trimmed.{IsWholeRanking}
 use Rattle.pp_graph.proofs.KeyRowLemmas.{rows_are}

@@ -16,7 +16,7 @@ use Rattle.pp_count.specs.Ranks.{by_size, each_once}
 use Rattle.pp_count.specs.Sums.{Seen, sum_where}
 use Rattle.pp_calltree.specs.CallPaths.{CallPath, path_by, paths_below, all_paths}
 use Rattle.pp_calltree.specs.CallTree.{rooted, any_path, is_end, first_key, first_keys, all_lengths, below_key, under, path_cum, path_flat, sibling_order, siblings}
-use Rattle.pp_laws.proofs.Listed.{each_once_members, each_once_same}
+use Rattle.pp_graph.proofs.Listed.{each_once_members, each_once_same}
 
 -- Whatever is asked of keys, the samples that pass add up to the same, and one passes in both or in neither.
 pub record AddUpAlike {K : Type 0} (a b : List (Seen K)) : Type 0 where

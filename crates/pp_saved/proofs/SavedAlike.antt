@@ -30,7 +30,7 @@ use Rattle.pp_calltree.specs.CallTree.{rooted}
 use Rattle.pp_export.specs.Folded.{path_lines}
 use Rattle.pp_dump.proofs.SeenSums.{IsNatural}
 use Rattle.pp_dump.proofs.WholeStacks.{whole_left}
-use Rattle.pp_laws.proofs.Listed.{each_once_same}
+use Rattle.pp_graph.proofs.Listed.{each_once_same}
 use Rattle.pp_laws.proofs.Sampling.{sum_where-weighed}
 use Rattle.pp_report.specs.Heads.{first_file}
 use Rattle.pp_saved.specs.Figures.{Figures, figures, is_found_frame}

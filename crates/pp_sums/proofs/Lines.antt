@@ -22,7 +22,7 @@ use Rattle.pp_source.specs.Amounts.{routine_of, source_line, routine_amounts, li
 use Rattle.pp_source.specs.Routines.{all_lines, found_lines, is_same_routine}
 use Rattle.pp_laws.specs.Figures.{NoneNegative}
 use Rattle.pp_laws.proofs.IntSums.{sum_over}
-use Rattle.pp_laws.proofs.Listed.{each_once_apart, each_once_members}
+use Rattle.pp_graph.proofs.Listed.{each_once_apart, each_once_members}
 use Rattle.pp_laws.proofs.Sampling.{sum_where_within}
 use Rattle.pp_sums.specs.Listed.{amounts_in, IsSumOfLines, ListedLinesAddUp}
 use Rattle.pp_sums.proofs.Parts.{alike, first_passes, flats_of_parts, frames_above, sum_where-renamed, sum_where_same}

@@ -23,12 +23,13 @@ use Rattle.pp_count.specs.Counted.{report_samples, report_frames}
 use Rattle.pp_count.proofs.CallerLemmas.{key_of_written, keyed_frames, keyed_report}
 use Rattle.pp_count.proofs.Renaming.{all_keys_occur}
 use Rattle.pp_count.proofs.Ties.{key_decides}
-use Rattle.pp_graph.specs.Trim.{all_report_keys, report_order}
+use Rattle.pp_graph.specs.Sampled.{report_order}
+use Rattle.pp_graph.specs.Trim.{all_report_keys}
 use Rattle.pp_graph.proofs.Ordering.{report_total}
 use Rattle.pp_laws.specs.Figures.{NoneNegative}
 use Rattle.pp_laws.proofs.AddingUp.{order_ties}
 use Rattle.pp_laws.proofs.IntSums.{sum_over, sum_none, sum_plus, sum_same, one_match}
-use Rattle.pp_laws.proofs.Listed.{each_once_apart, each_once_members}
+use Rattle.pp_graph.proofs.Listed.{each_once_apart, each_once_members}
 use Rattle.pp_laws.proofs.Sampling.{part, none_weighed, sum_where_within}
 use Rattle.pp_sums.specs.Finer.{at_grain, is_finer, is_part, IsSumOfParts, PartsAddUp}
 

@@ -17,11 +17,12 @@ use Rattle.pp_count.specs.Counted.{report_samples}
 use Rattle.pp_count.specs.Ranks.{each_once, is_heavy}
 use Rattle.pp_count.proofs.Renaming.{all_keys_occur}
 use Rattle.pp_count.proofs.Ties.{tied}
-use Rattle.pp_graph.specs.Trim.{is_heavy_key, report_order, shown_keys}
+use Rattle.pp_graph.specs.Sampled.{is_heavy_cum, report_order}
+use Rattle.pp_graph.specs.Trim.{shown_keys}
 use Rattle.pp_graph.proofs.Ordering.{report_total, report_same}
 use Rattle.pp_laws.specs.Figures.{NoneNegative}
 use Rattle.pp_laws.proofs.AddingUp.{order_ties}
-use Rattle.pp_laws.proofs.Listed.{each_once_same}
+use Rattle.pp_graph.proofs.Listed.{each_once_same}
 use Rattle.pp_laws.proofs.Reordering.{same_order}
 use Rattle.pp_sums.specs.Same.{HaveSameSums, HaveSameRows}
 use Rattle.pp_sums.proofs.Signs.{isnt_zero, found_is_sum}
@@ -44,10 +45,10 @@ module _ (sort : Sort) (ss ts : List (Seen Written)) (flats : (k : Written) → 
     all_same = ranked_same (all_keys ss) (all_keys ts) keys_same
 
     heavy_same : (total other billionths : ℕ) → total ≡ other
-        → each_once (report_order key_cmp sort ss) (filter (is_heavy_key key_cmp total billionths ss) (all_keys ss))
-        ≡ each_once (report_order key_cmp sort ts) (filter (is_heavy_key key_cmp other billionths ts) (all_keys ts))
+        → each_once (report_order key_cmp sort ss) (filter (is_heavy_cum key_cmp total billionths ss) (all_keys ss))
+        ≡ each_once (report_order key_cmp sort ts) (filter (is_heavy_cum key_cmp other billionths ts) (all_keys ts))
     heavy_same total other billionths totals =
-        let heavy : Written → Bool = is_heavy_key key_cmp other billionths ts in
+        let heavy : Written → Bool = is_heavy_cum key_cmp other billionths ts in
         let among : (xs : List Written) (k : Written) → list_any (eq_by_cmp key_cmp k) (filter heavy xs) ≡ (heavy k && list_any (eq_by_cmp key_cmp k) xs) = λ xs k.
         any-filter_same (eq_by_cmp key_cmp k) heavy (heavy k) (λ q e. ap heavy (sym (tied k q e))) xs in
         (λ i. each_once (report_order key_cmp sort ss) (filter (λ k. is_heavy (totals i) billionths (cums k i)) (all_keys ss)))

@@ -31,7 +31,7 @@ use Rattle.pp_count.specs.Sums.{Seen, sum_where}
 use Rattle.pp_count.proofs.EachOnce.{same_ties}
 use Rattle.pp_laws.specs.Figures.{has_frames, whole}
 use Rattle.pp_laws.proofs.IntSums.{sum_over, sum_each, sum_none, sum_plus, sum_same, one_match}
-use Rattle.pp_laws.proofs.Listed.{each_once_apart, each_once_members}
+use Rattle.pp_graph.proofs.Listed.{each_once_apart, each_once_members}
 use Rattle.pp_laws.proofs.Sampling.{part, sum_where_all}
 use Rattle.pp_samples.specs.Traces.{trace_label_line, trace_of, trace_separator, trace_text}
 use Rattle.pp_samples.specs.TagLines.{TagTexts, all_tags, has_label_key, key_sum, key_tags, line_cmp, same_tag, sample_with_tags, some_key, some_tag, tag_sum, tagged_samples}

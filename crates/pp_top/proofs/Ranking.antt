@@ -16,7 +16,8 @@ use Rattle.pp_count.specs.Table.{written_key}
 use Rattle.pp_graph.specs.declared.ranking.Ranked.{Ranked}
 use Rattle.pp_graph.specs.Trim.{report_keys}
 use Rattle.pp_graph.specs.Trimmed.{IsRankedOf}
-use Rattle.pp_graph.specs.KeyRows.{row_at, key_row}
+use Rattle.pp_graph.specs.KeyRows.{row_at}
+use Rattle.pp_graph.specs.Sampled.{key_row}
 use Rattle.pp_top.specs.Top.{top_rows, top_summary, ranked_text, top_text}
 use Rattle.pp_graph.proofs.KeyRowLemmas.{rows_are}
 

@@ -30,7 +30,8 @@ use Rattle.pp_graph.specs.declared.ranking.Ranked.{Ranked}
 use Rattle.pp_graph.specs.Links.{EdgeLinks, live_edges}
 use Rattle.pp_graph.specs.Trim.{all_report_keys}
 use Rattle.pp_graph.specs.Trimmed.{IsWholeRanking}
-use Rattle.pp_graph.specs.KeyRows.{CanShow, key_row}
+use Rattle.pp_graph.specs.KeyRows.{CanShow}
+use Rattle.pp_graph.specs.Sampled.{key_row}
 use Rattle.pp_graph.specs.Neighbours.{neighbour_list}
 use Rattle.pp_graph.proofs.Whole.{light-none}
 use Rattle.pp_tree.specs.Nodes.{Node, table_heading, tree_nodes_text}

@@ -21,9 +21,10 @@ use Rattle.pp_count.specs.Seeing.{HoldsFilters}
 use Rattle.pp_count.specs.Sums.{Seen, all_keys}
 use Rattle.pp_count.specs.Table.{written_key}
 use Rattle.pp_graph.specs.declared.trimming.Trimmed.{Trimmed}
-use Rattle.pp_graph.specs.Trim.{has_heavy_edge, report_keys, is_report_key}
+use Rattle.pp_graph.specs.Sampled.{has_heavy_edge}
+use Rattle.pp_graph.specs.Trim.{report_keys, is_report_key}
 use Rattle.pp_graph.specs.Trimmed.{IsTrimmedOf}
-use Rattle.pp_graph.specs.KeyRows.{key_row}
+use Rattle.pp_graph.specs.Sampled.{key_row}
 use Rattle.pp_graph.proofs.KeyRowLemmas.{row_is}
 use Rattle.pp_tree.specs.Nodes.{table_heading, tree_nodes_text}
 use Rattle.pp_tree.specs.Tree.{near_of, node_of, summary_text, tree_text}

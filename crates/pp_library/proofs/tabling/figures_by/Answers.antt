@@ -4,7 +4,8 @@ use Rattle.std.proofs.lemmas.Result.{IfOk-weaker}
 use Rattle.pp_model.specs.FrameTexts.{Written}
 use Rattle.pp_count.specs.Counted.{report_samples}
 use Rattle.pp_count.specs.Counts.{total_of}
-use Rattle.pp_graph.specs.KeyRows.{key_row, row_at}
+use Rattle.pp_graph.specs.KeyRows.{row_at}
+use Rattle.pp_graph.specs.Sampled.{key_row}
 use Rattle.pp_graph.specs.Trimmed.{written_order}
 use Rattle.pp_graph.specs.Trim.{first_report_keys, node_limit}
 use Rattle.pp_library.specs.Edges.{AreRowEdges}

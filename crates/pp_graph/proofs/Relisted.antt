@@ -1,5 +1,5 @@
--- Keys that were listed once already list the same again.
-use Rattle.std.proofs.Common.{◌≡◌, Bool, ◌&&◌, List, length, sym, ap, subst, ◌∙◌}
+-- Keys that were listed once already list the same again, so what a report shows follows from its samples in any order.
+use Rattle.std.proofs.Common.{◌≡◌, ℕ, Bool, not, ◌&&◌, List, length, Option, sym, ap, subst, ◌∙◌}
 use Rattle.std.specs.List.{filter, list_any, IsDistinct}
 use Rattle.std.specs.Ordering.{eq_by_cmp}
 use Rattle.std.specs.Set.{distinct_count}
@@ -9,14 +9,24 @@ use Rattle.std.specs.declared.cmp.Ordering.{Ordering}
 use Rattle.std.proofs.lemmas.Cmp.{eq_by_cmp_equiv}
 use Rattle.std.proofs.lemmas.Map.Made.{length-from_keys}
 use Rattle.std.proofs.lemmas.Map.Views.{any-filter_same}
+use Rattle.pp_model.specs.declared.config.Config.{Config}
+use Rattle.pp_model.specs.declared.presentation.Sort.{Sort}
+use Rattle.pp_model.specs.declared.profile.Profile.{Profile}
+use Rattle.pp_model.specs.Finders.{Finders}
 use Rattle.pp_model.specs.FrameTexts.{Written}
 use Rattle.pp_grain.specs.Keys.{key_cmp}
 use Rattle.pp_grain.proofs.CallerLemmas.{key_cmp_total, key_cmp_ties}
+use Rattle.pp_count.specs.Counted.{report_samples}
+use Rattle.pp_count.specs.Counts.{total_of}
 use Rattle.pp_count.specs.Ranks.{each_once}
+use Rattle.pp_count.specs.Sums.{Seen, all_keys}
 use Rattle.pp_count.proofs.EachOnce.{same_ties}
 use Rattle.pp_count.proofs.Ties.{key_decides, tied}
-use Rattle.pp_account.proofs.Filtered.{each_once-filter}
-use Rattle.pp_laws.proofs.Listed.{each_once_members, each_once_same, each_once_apart}
+use Rattle.pp_graph.specs.Sampled.{report_order, is_heavy_cum, heavy_listed, light_count}
+use Rattle.pp_graph.specs.Trim.{all_report_keys, candidate_keys, light_nodes}
+use Rattle.pp_graph.proofs.Filtered.{each_once-filter}
+use Rattle.pp_graph.proofs.Listed.{each_once_members, each_once_same, each_once_apart}
+use Rattle.pp_graph.proofs.Ordering.{report_total, report_same}
 
 -- the key is among those that pass a test
 among : (test : Written → Bool) (xs : List Written) (k : Written) → list_any (eq_by_cmp key_cmp k) (filter test xs) ≡ (test k && list_any (eq_by_cmp key_cmp k) xs)
@@ -49,3 +59,23 @@ counted_once test xs =
     let apart : IsDistinct (eq_by_cmp key_cmp) (filter test (each_once key_cmp xs)) =
     subst (IsDistinct (eq_by_cmp key_cmp)) (each_once-filter key_cmp_total key_cmp_ties test xs) (each_once_apart key_cmp (filter test xs)) in
     sym (length-from_keys (eq_by_cmp_equiv key_cmp_total) (filter test (each_once key_cmp xs)) (filter test xs) apart (λ k. sym (passing test xs k)))
+
+module _ (p : Profile) (f : Finders) (config : Config) (column : Option ℕ) where
+  abbrev samples : List (Seen Written)
+  samples = report_samples p f config column
+
+  abbrev heavy : Written → Bool
+  heavy = is_heavy_cum key_cmp (total_of p f config column) config.presentation.nodefraction.billionths samples
+
+  -- the keys that a report may show
+  pub candidates_listed : candidate_keys p f config column
+      ≡ heavy_listed key_cmp config.presentation.sort (total_of p f config column) config.presentation.nodefraction.billionths samples
+  candidates_listed = sym (relisted (report_total samples config.presentation.sort) (report_same samples config.presentation.sort) heavy (all_keys samples))
+
+  -- how many are too light
+  pub light_counted : light_nodes p f config column ≡ light_count key_cmp (total_of p f config column) config.presentation.nodefraction.billionths samples
+  light_counted = sym (counted_once (λ k. not (heavy k)) (all_keys samples))
+
+  -- all that occur
+  pub all_listed : all_report_keys p f config column ≡ each_once (report_order key_cmp config.presentation.sort samples) (all_keys samples)
+  all_listed = sym (relisted_all (report_total samples config.presentation.sort) (report_same samples config.presentation.sort) (all_keys samples))
