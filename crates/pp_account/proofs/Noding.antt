@@ -22,6 +22,7 @@ use Rattle.pp_count.specs.Sums.{Seen, flat, cum, all_keys}
 use Rattle.pp_count.specs.Table.{written_key}
 use Rattle.pp_graph.specs.declared.ranking.Ranked.{Ranked}
 use Rattle.pp_graph.specs.KeyRows.{KeyRow, row_at}
+use Rattle.pp_graph.specs.Figures.{figures}
 use Rattle.pp_graph.specs.Sampled.{key_row}
 use Rattle.pp_graph.specs.Ranks.{sum_of_name, is_heavy_number}
 use Rattle.pp_graph.specs.Sampled.{is_heavy_cum}
@@ -53,7 +54,7 @@ pub candidates_are : (p : Profile) (f : Finders) (config : Config) (column : Opt
 candidates_are p f config column =
     let samples : List (Seen Written) = report_samples p f config column in
     each_once-filter (report_total samples config.presentation.sort) (report_same samples config.presentation.sort)
-    (is_heavy_cum key_cmp (total_of p f config column) config.presentation.nodefraction.billionths samples) (all_keys samples)
+    (is_heavy_cum key_cmp (total_of p f config column) config.presentation.nodefraction.billionths samples) (figures p f config column).keys
 
 -- parts of numbers have what all of them have
 pub shown_below : (P : ℕ → Type 0) (limit : ℕ) (ns : List ℕ) → All P ns → All P (shown_keys limit ns)

@@ -5,10 +5,8 @@ use Rattle.pp_model.specs.declared.config.Config.{Config}
 use Rattle.pp_model.specs.declared.profile.Profile.{Profile}
 use Rattle.pp_model.specs.Finders.{Finders}
 use Rattle.pp_model.specs.FrameTexts.{Written}
-use Rattle.pp_grain.specs.Keys.{key_cmp}
 use Rattle.pp_count.specs.declared.sums.Sums.{Sums}
-use Rattle.pp_count.specs.Counts.{total_of}
-use Rattle.pp_count.specs.Counted.{report_samples}
+use Rattle.pp_graph.specs.Figures.{figures}
 use Rattle.pp_graph.specs.KeyRows.{flat_sum}
 use Rattle.pp_graph.specs.Ranks.{sum_of_name, is_heavy_number}
 use Rattle.pp_graph.specs.Trim.{all_report_keys, candidate_keys, shown_keys, is_heavy_key}
@@ -20,15 +18,14 @@ use Rattle.pp_account.specs.declared.portion.Portion.{Portion}
 abbrev pub keys_portion : Profile → Finders → Config → Option ℕ → List Written → Portion
 keys_portion p f config column keys = record {
   count = length keys;
-  value = flat_sum (report_samples p f config column) keys;
+  value = flat_sum (figures p f config column) keys;
 }
 
 -- the keys that occur and are too light to be shown
 abbrev pub light_keys : Profile → Finders → Config → Option ℕ → List Written
 light_keys p f config column =
-    filter (λ k. not (is_heavy_key key_cmp
-    (total_of p f config column) config.presentation.nodefraction.billionths
-    (report_samples p f config column) k)) (all_report_keys p f config column)
+    filter (λ k. not (is_heavy_key (figures p f config column) config.presentation k))
+    (all_report_keys p f config column)
 
 -- what stands past the limit, nothing where it is 0
 abbrev pub past_limit : {K : Type 0} → ℕ → List K → List K

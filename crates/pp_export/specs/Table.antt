@@ -3,11 +3,12 @@ use Rattle.std.specs.Prelude.{ℕ, List, ◌++◌, map, codes, Option}
 use Rattle.std.specs.List.{flat_map}
 use Rattle.std.specs.Fmt.{signed_decimal}
 use Rattle.pp_model.specs.declared.config.Config.{Config}
+use Rattle.pp_model.specs.declared.presentation.Presentation.{Presentation}
 use Rattle.pp_model.specs.declared.profile.Profile.{Profile}
 use Rattle.pp_model.specs.Finders.{Finders}
-use Rattle.pp_count.specs.Counted.{report_samples}
-use Rattle.pp_graph.specs.KeyRows.{KeyRow, key_row}
-use Rattle.pp_graph.specs.Trim.{first_report_keys}
+use Rattle.pp_graph.specs.Figures.{Figures, figures}
+use Rattle.pp_graph.specs.KeyRows.{KeyRow, row_of}
+use Rattle.pp_graph.specs.Trim.{ordered_keys, shown_keys}
 use Rattle.pp_cells.specs.Cells.{behind_slash, cell, cell_text, last_cell}
 
 -- the line above the rows, whose values are in this unit
@@ -26,9 +27,13 @@ row_line row =
 abbrev pub table_rows : List KeyRow → List ℕ
 table_rows rows = flat_map row_line rows
 
--- The text of the table report with this limit, where 0 is none, and with this unit of the values.
+-- the text of the table report of these figures, with this limit, where 0 is none, and with this unit of the values
+abbrev pub table_layout : Figures → Presentation → ℕ → List ℕ → List ℕ
+table_layout g presentation limit unit =
+    exact_heading unit
+    ++ table_rows (map (row_of g) (shown_keys limit (ordered_keys g presentation.sort)))
+
+-- The text of the table report with this limit and this unit: the heading, and the rows in report order.
 abbrev pub exact_table : Profile → Finders → Config → Option ℕ → ℕ → List ℕ → List ℕ
 exact_table p f config column limit unit =
-    exact_heading unit
-    ++ table_rows (map (key_row (report_samples p f config column))
-    (first_report_keys p f config column limit))
+    table_layout (figures p f config column) config.presentation limit unit

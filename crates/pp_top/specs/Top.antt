@@ -1,18 +1,18 @@
 -- The text of the top report: the lines of its head, and a row for each key that it shows.
 use Rattle.std.specs.Prelude.{ℕ, ℤ, pos, List, ◌++◌, length, map, Option}
 use Rattle.pp_model.specs.declared.config.Config.{Config}
+use Rattle.pp_model.specs.declared.presentation.Presentation.{Presentation}
 use Rattle.pp_model.specs.declared.profile.Profile.{Profile}
 use Rattle.pp_model.specs.Finders.{Finders}
-use Rattle.pp_model.specs.FrameTexts.{Written}
 use Rattle.pp_units.specs.Head.{Facts, facts_text}
 use Rattle.pp_units.specs.Rows.{columns_text, name_end, showing_line, dropped_line, limited_line, heading}
 use Rattle.pp_units.specs.Rows as lines
 use Rattle.pp_units.specs.Shown.{Shown}
 use Rattle.pp_count.specs.declared.sums.Sums.{Sums}
-use Rattle.pp_count.specs.Counted.{report_samples}
 use Rattle.pp_graph.specs.declared.ranking.Ranked.{Ranked}
-use Rattle.pp_graph.specs.Trim.{candidate_keys, report_keys, light_nodes}
-use Rattle.pp_graph.specs.KeyRows.{KeyRow, running_text, key_row, row_at, flat_sum}
+use Rattle.pp_graph.specs.Figures.{Figures, figures}
+use Rattle.pp_graph.specs.Trim.{heavy_keys, shown_keys, light_key_count}
+use Rattle.pp_graph.specs.KeyRows.{KeyRow, running_text, row_of, row_at, flat_sum}
 
 -- the line of a row, where the flats up to it have this sum
 abbrev pub top_row : Shown → ℕ → ℤ → KeyRow → List ℕ
@@ -35,12 +35,17 @@ ranked_text p sums t h =
     facts_text h ++ top_summary h t.shown_flat t.dropped_nodes (length t.order) t.candidates
     ++ heading ++ top_rows h.unit h.total (pos 0) (map (row_at p sums) t.order)
 
--- The text of the top report with this limit, where 0 is none: its head, the heading, and the rows.
+-- the text of the top report of these figures, with this limit, where 0 is none
+abbrev pub top_layout : Figures → Presentation → ℕ → Facts → List ℕ
+top_layout g presentation limit h =
+    let candidates = heavy_keys g presentation in
+    let shown = shown_keys limit candidates in
+    facts_text h
+    ++ top_summary h (flat_sum g shown) (light_key_count g presentation) (length shown)
+    (length candidates)
+    ++ heading ++ top_rows h.unit h.total (pos 0) (map (row_of g) shown)
+
+-- The text of the top report with this limit: its head, the heading, and the rows.
 abbrev pub top_text : Profile → Finders → Config → Option ℕ → ℕ → Facts → List ℕ
 top_text p f config column limit h =
-    let samples = report_samples p f config column in
-    let keys = report_keys p f config column limit in
-    facts_text h
-    ++ top_summary h (flat_sum samples keys) (light_nodes p f config column) (length keys)
-    (length (candidate_keys p f config column))
-    ++ heading ++ top_rows h.unit h.total (pos 0) (map (key_row samples) keys)
+    top_layout (figures p f config column) config.presentation limit h

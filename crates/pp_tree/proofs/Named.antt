@@ -21,8 +21,8 @@ use Rattle.pp_count.specs.declared.sums.Sums.{Sums}
 use Rattle.pp_count.specs.Sums.{Seen, has, occurs, renamed}
 use Rattle.pp_count.proofs.CallerLemmas.{key_of_written, keyed_report}
 use Rattle.pp_count.proofs.Ties.{tied, tied_self}
-use Rattle.pp_tree.specs.Found.{keeps_function}
-use Rattle.pp_tree.specs.Peek.{is_own_of, is_found_key}
+use Rattle.pp_tree.specs.Found.{is_own_of, keeps_function}
+use Rattle.pp_tree.specs.Peek.{is_found_key}
 use Rattle.pp_tree.proofs.Owned.{any_implies, key_match, no_match}
 
 or-true : (b : Bool) → (b || true) ≡ true

@@ -27,8 +27,8 @@ use Rattle.pp_count.specs.Seeing.{counted_frames, framed_with, framed_samples, f
 use Rattle.pp_count.specs.Sums.{Seen, weighed}
 use Rattle.pp_count.proofs.Kept.{kept_samples}
 use Rattle.pp_count.proofs.Ties.{tied, tied_self}
-use Rattle.pp_tree.specs.Peek.{is_own_of, is_found_key}
-use Rattle.pp_tree.specs.Found.{holds_key, is_own_frame, has_own_frame, has_own_sample, has_own_number}
+use Rattle.pp_tree.specs.Peek.{is_found_key}
+use Rattle.pp_tree.specs.Found.{is_own_of, holds_key, is_own_frame, has_own_frame, has_own_sample, has_own_number}
 use Rattle.pp_tree.proofs.Marking.{has_same}
 
 pub any_implies : {X : Type 0} (t u : X → Bool) → ((x : X) → t x ≡ true → u x ≡ true) → (xs : List X) → list_any t xs ≡ true → list_any u xs ≡ true

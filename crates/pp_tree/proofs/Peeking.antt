@@ -27,6 +27,7 @@ use Rattle.pp_count.specs.Sums.{Seen, has, occurs}
 use Rattle.pp_count.specs.Table.{no_key, written_key}
 use Rattle.pp_count.proofs.Ties.{tied_self}
 use Rattle.pp_graph.specs.declared.ranking.Ranked.{Ranked}
+use Rattle.pp_graph.specs.Figures.{figures}
 use Rattle.pp_graph.specs.Links.{EdgeLinks, live_edges}
 use Rattle.pp_graph.specs.Trim.{all_report_keys}
 use Rattle.pp_graph.specs.Trimmed.{IsWholeRanking}
@@ -35,8 +36,8 @@ use Rattle.pp_graph.specs.Sampled.{key_row}
 use Rattle.pp_graph.specs.Neighbours.{neighbour_list}
 use Rattle.pp_graph.proofs.Whole.{light-none}
 use Rattle.pp_tree.specs.Nodes.{Node, table_heading, tree_nodes_text}
-use Rattle.pp_tree.specs.Tree.{near_of}
-use Rattle.pp_tree.specs.Peek.{is_found_key, whole_node_of, peek_text}
+use Rattle.pp_tree.specs.Tree.{near_of, node_of}
+use Rattle.pp_tree.specs.Peek.{is_found_key, peek_text}
 use Rattle.pp_tree.specs.Ends.{Pairs, ShowsPairs, callers_in, callees_in, node_at, peeked_text, edge_if}
 use Rattle.pp_tree.specs.Whole.{any_key, all_pairs, pairs_about}
 use Rattle.pp_tree.proofs.Shown.{keys_of_names, nodes_are}
@@ -206,9 +207,9 @@ module _ (l : Loaded) (v : Verdicts) (config : Config) (column : Option ℕ) (c 
       let all : Pairs = all_pairs l.profile f config column in
       let about : Pairs = pairs_about test all in
       let node : Written → Node = λ k. record { row = key_row samples k; callers = map near_of (callers_in about k); callees = map near_of (callees_in about k) } in
-      let nodes : map (node_at l.profile c.sums about) shown ≡ map (whole_node_of l.profile f config column) (filter test (all_report_keys l.profile f config column)) =
+      let nodes : map (node_at l.profile c.sums about) shown ≡ map (node_of (figures l.profile f config column) any_key 0) (filter test (all_report_keys l.profile f config column)) =
       nodes_are l.profile samples c.sums about shown (counted.sums_are f holds) below ∙ ap (map node) keys
-      ∙ map_alike test node (whole_node_of l.profile f config column)
+      ∙ map_alike test node (node_of (figures l.profile f config column) any_key 0)
       (λ k is i. record { row = key_row samples k; callers = map near_of (callers_about test all k is i); callees = map near_of (callees_about test all k is i) })
       (all_report_keys l.profile f config column) in
       λ i. facts_text h ++ showing_line h.unit h.total (whole.shown_flat f holds i) ++ table_heading ++ tree_nodes_text h.unit h.total (pos 0) (nodes i) where

@@ -12,20 +12,22 @@ use Rattle.pp_model.specs.Finders.{Finders}
 use Rattle.pp_model.specs.FrameTexts.{Written}
 use Rattle.pp_units.specs.Head.{Facts, facts_text}
 use Rattle.pp_grain.specs.Keys.{key_cmp}
+use Rattle.pp_grain.proofs.CallerLemmas.{key_cmp_total}
 use Rattle.pp_count.specs.declared.counted.Counted.{Counted}
 use Rattle.pp_count.specs.declared.sums.Sums.{Sums}
 use Rattle.pp_count.specs.Counted.{IsCountedOf, report_samples}
-use Rattle.pp_count.specs.Counts.{AreSumsOf, written_names, total_of}
-use Rattle.pp_count.specs.EdgeSums.{edge_sum}
+use Rattle.pp_count.specs.Counts.{AreSumsOf, written_names}
+use Rattle.pp_count.specs.Ranks.{each_once}
 use Rattle.pp_count.specs.Seeing.{HoldsFilters}
 use Rattle.pp_count.specs.Sums.{Seen, all_keys}
 use Rattle.pp_count.specs.Table.{written_key}
 use Rattle.pp_graph.specs.declared.trimming.Trimmed.{Trimmed}
-use Rattle.pp_graph.specs.Sampled.{has_heavy_edge}
-use Rattle.pp_graph.specs.Trim.{report_keys, is_report_key}
+use Rattle.pp_graph.specs.Figures.{figures}
+use Rattle.pp_graph.specs.Trim.{is_heavy_pair, report_keys, is_report_key}
 use Rattle.pp_graph.specs.Trimmed.{IsTrimmedOf}
 use Rattle.pp_graph.specs.Sampled.{key_row}
 use Rattle.pp_graph.proofs.KeyRowLemmas.{row_is}
+use Rattle.pp_graph.proofs.Listed.{each_once_members}
 use Rattle.pp_tree.specs.Nodes.{table_heading, tree_nodes_text}
 use Rattle.pp_tree.specs.Tree.{near_of, node_of, summary_text, tree_text}
 use Rattle.pp_tree.specs.Ends.{Pairs, ShowsPairs, callers_in, callees_in, node_at, trimmed_text}
@@ -40,10 +42,11 @@ any-keys : (t : Written → Bool) (samples : List (Seen Written)) → list_any t
 any-keys t [] = refl
 any-keys t (s ∷ samples) = any-append t s.keys (all_keys samples) ∙ ap (λ b. list_any t s.keys || b) (any-keys t samples)
 
--- the keys of the samples are those of the names
+-- the keys that occur are those of the names
 pub keys_of_names : (p : Profile) (samples : List (Seen Written)) (sums : Sums) → AreSumsOf p samples sums → (k : Written)
-    → list_any (eq_by_cmp key_cmp k) (all_keys samples) ≡ list_any (eq_by_cmp key_cmp k) (written_names p sums)
-keys_of_names p samples sums are k = any-keys (eq_by_cmp key_cmp k) samples ∙ sym (are.occur k)
+    → list_any (eq_by_cmp key_cmp k) (each_once key_cmp (all_keys samples)) ≡ list_any (eq_by_cmp key_cmp k) (written_names p sums)
+keys_of_names p samples sums are k =
+    each_once_members key_cmp_total (all_keys samples) k ∙ any-keys (eq_by_cmp key_cmp k) samples ∙ sym (are.occur k)
 
 -- the node of a name, where its key's callers and callees are these
 pub nodes_are : (p : Profile) (samples : List (Seen Written)) (sums : Sums) (pairs : Pairs) (order : List ℕ) → AreSumsOf p samples sums → All (λ n. n < length sums.names) order
@@ -60,9 +63,9 @@ nodes_are p samples sums pairs (n ∷ order) are below = λ i.
 -- the pairs of a tree report
 abbrev pub report_pairs : Profile → Finders → Config → Option ℕ → ℕ → Pairs
 report_pairs p f config column limit = record {
-  shows = has_heavy_edge key_cmp (is_report_key p f config column limit) (report_samples p f config column) (total_of p f config column) config.presentation.edgefraction.billionths;
-  value = edge_sum key_cmp (is_report_key p f config column limit) (report_samples p f config column);
-  keys = all_keys (report_samples p f config column);
+  shows = is_heavy_pair (figures p f config column) (is_report_key p f config column limit) config.presentation.edgefraction.billionths;
+  value = (figures p f config column).sum_of_pair (is_report_key p f config column limit);
+  keys = (figures p f config column).keys;
 }
 
 module _ (l : Loaded) (v : Verdicts) (config : Config) (column : Option ℕ) (limit : ℕ) (f : Finders) (c : Counted) (t : Trimmed)
@@ -80,9 +83,9 @@ module _ (l : Loaded) (v : Verdicts) (config : Config) (column : Option ℕ) (li
   trimmed_is h =
       let samples : List (Seen Written) = report_samples l.profile f config column in
       let keys : List Written = report_keys l.profile f config column limit in
-      let nodes : map (node_at l.profile c.sums (report_pairs l.profile f config column limit)) t.ranked.order ≡ map (node_of l.profile f config column limit) keys =
+      let nodes : map (node_at l.profile c.sums (report_pairs l.profile f config column limit)) t.ranked.order ≡ map (node_of (figures l.profile f config column) (is_report_key l.profile f config column limit) config.presentation.edgefraction.billionths) keys =
       nodes_are l.profile samples c.sums (report_pairs l.profile f config column limit) t.ranked.order (counted.sums_are f holds) trimmed.ranked.below
-      ∙ ap (map (node_of l.profile f config column limit)) (trimmed.ranked.keys f holds) in
+      ∙ ap (map (node_of (figures l.profile f config column) (is_report_key l.profile f config column limit) config.presentation.edgefraction.billionths)) (trimmed.ranked.keys f holds) in
       let count : length t.ranked.order ≡ length keys =
       sym (length-map t.ranked.order (written_key l.profile c.sums.names)) ∙ ap length (trimmed.ranked.keys f holds) in
       λ i.

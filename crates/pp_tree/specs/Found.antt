@@ -19,6 +19,12 @@ use Rattle.pp_grain.specs.Keys.{key_cmp, key_written, frame_counts}
 use Rattle.pp_stack.specs.Filters.{frames_of_sample}
 use Rattle.pp_count.specs.Column.{selected}
 use Rattle.pp_count.specs.Seeing.{counted_frames, key_of_frame}
+use Rattle.pp_graph.specs.Figures.{is_found_frame}
+use Rattle.pp_tree.specs.Peek.{own_finds}
+
+-- the own pattern finds the frame's function, and the key is the frame's
+abbrev pub is_own_of : Finders → Grouping → Written → Written → Bool
+is_own_of f grouping k w = is_found_frame grouping (own_finds f.own) k w
 
 -- the keys of the grain have their frames' function
 abbrev pub keeps_function : Grain → Bool

@@ -1,48 +1,40 @@
 -- The text of the peek report: the nodes that its pattern finds, with all their callers and callees.
-use Rattle.std.specs.Prelude.{ℕ, pos, Bool, ◌&&◌, List, ◌++◌, map, Option}
-use Rattle.std.specs.List.{filter, list_any}
-use Rattle.std.specs.Ordering.{eq_by_cmp}
+use Rattle.std.specs.Prelude.{ℕ, pos, Bool, true, false, List, ◌++◌, map, Option}
+use Rattle.std.specs.List.{filter}
+use Rattle.std.specs.Option.{option_map_or}
 use Rattle.pp_model.specs.declared.config.Config.{Config}
+use Rattle.pp_model.specs.declared.presentation.Presentation.{Presentation}
 use Rattle.pp_model.specs.declared.profile.Profile.{Profile}
-use Rattle.pp_model.specs.declared.grouping.Grouping.{Grouping}
-use Rattle.pp_model.specs.Finders.{Finders}
+use Rattle.pp_model.specs.Finders.{Finder, Finders}
 use Rattle.pp_model.specs.FrameTexts.{Written}
 use Rattle.pp_units.specs.Head.{Facts, facts_text}
 use Rattle.pp_units.specs.Rows.{showing_line}
-use Rattle.pp_grain.specs.Keys.{key_cmp, key_texts}
-use Rattle.pp_count.specs.Counted.{report_samples, report_frames, finds_own}
-use Rattle.pp_graph.specs.Neighbours.{all_callers_of, all_callees_of}
-use Rattle.pp_graph.specs.Trim.{all_report_keys}
-use Rattle.pp_graph.specs.KeyRows.{key_row, flat_sum}
-use Rattle.pp_tree.specs.Nodes.{Node, table_heading, tree_nodes_text}
-use Rattle.pp_tree.specs.Tree.{near_of}
+use Rattle.pp_graph.specs.Figures.{Figures, figures}
+use Rattle.pp_graph.specs.Trim.{ordered_keys}
+use Rattle.pp_graph.specs.KeyRows.{flat_sum}
+use Rattle.pp_tree.specs.Nodes.{table_heading, tree_nodes_text}
+use Rattle.pp_tree.specs.Tree.{node_of}
 
--- the own pattern finds the frame's function, and the key is the frame's
-abbrev pub is_own_of : Finders → Grouping → Written → Written → Bool
-is_own_of f grouping k w =
-    finds_own f w && eq_by_cmp key_cmp k (key_texts grouping.grain grouping.showcolumns w)
+-- what a report's own pattern finds of a text, nothing where there is none
+abbrev pub own_finds : Option Finder → List ℕ → Bool
+own_finds own text = option_map_or (λ find. find text) own false
 
 -- Whether the own pattern finds the function of a frame that counts and has the key.
 abbrev pub is_found_key : Profile → Finders → Config → Option ℕ → Written → Bool
-is_found_key p f config column k =
-    list_any (λ s. list_any (is_own_of f config.grouping k) s.keys)
-    (report_frames p f config column)
+is_found_key p f config column k = (figures p f config column).finds (own_finds f.own) k
 
--- the node of a key with all its callers and callees
-abbrev pub whole_node_of : Profile → Finders → Config → Option ℕ → Written → Node
-whole_node_of p f config column k = record {
-  row = key_row (report_samples p f config column) k;
-  callers = map near_of (all_callers_of p f config column k);
-  callees = map near_of (all_callees_of p f config column k);
-}
-
--- The text of the peek report: its head, which accounts for all keys, the heading, and
--- the nodes that the pattern finds, in report order.
-abbrev pub peek_text : Profile → Finders → Config → Option ℕ → Facts → List ℕ
-peek_text p f config column h =
-    let keys = all_report_keys p f config column in
+-- The text of the peek report of these figures, by its own pattern: its head, which accounts for all keys, the heading,
+-- and the nodes that the pattern finds, in report order, with all their callers and callees.
+abbrev pub peek_layout : Figures → Presentation → Option Finder → Facts → List ℕ
+peek_layout g presentation own h =
+    let keys = ordered_keys g presentation.sort in
     facts_text h
-    ++ showing_line h.unit h.total (flat_sum (report_samples p f config column) keys)
+    ++ showing_line h.unit h.total (flat_sum g keys)
     ++ table_heading
     ++ tree_nodes_text h.unit h.total (pos 0)
-    (map (whole_node_of p f config column) (filter (is_found_key p f config column) keys))
+    (map (node_of g (λ _. true) 0) (filter (g.finds (own_finds own)) keys))
+
+-- The text of the peek report.
+abbrev pub peek_text : Profile → Finders → Config → Option ℕ → Facts → List ℕ
+peek_text p f config column h =
+    peek_layout (figures p f config column) config.presentation f.own h

@@ -1,29 +1,32 @@
 -- The text of the tree report: the lines of its head, and the nodes that it shows between their callers and callees.
-use Rattle.std.specs.Prelude.{ℕ, ℤ, pos, List, ◌++◌, length, map, Option}
+use Rattle.std.specs.Prelude.{ℕ, ℤ, pos, Bool, List, ◌++◌, length, map, Option}
 use Rattle.pp_model.specs.declared.config.Config.{Config}
+use Rattle.pp_model.specs.declared.presentation.Presentation.{Presentation}
 use Rattle.pp_model.specs.declared.profile.Profile.{Profile}
 use Rattle.pp_model.specs.Finders.{Finders}
 use Rattle.pp_model.specs.FrameTexts.{Written}
 use Rattle.pp_units.specs.Head.{Facts, facts_text}
 use Rattle.pp_units.specs.Rows.{showing_line, dropped_line, limited_line}
 use Rattle.pp_units.specs.Rows as lines
+use Rattle.pp_grain.specs.Keys.{key_cmp}
 use Rattle.pp_grain.specs.Naming.{name_text}
-use Rattle.pp_count.specs.Counted.{report_samples}
+use Rattle.pp_count.specs.Sums.{has}
+use Rattle.pp_graph.specs.Figures.{Figures, figures}
 use Rattle.pp_graph.specs.Neighbours.{Neighbour, callers_of, callees_of}
-use Rattle.pp_graph.specs.Trim.{candidate_keys, report_keys, light_nodes, light_edges}
-use Rattle.pp_graph.specs.KeyRows.{key_row, flat_sum}
+use Rattle.pp_graph.specs.Trim.{heavy_keys, shown_keys, light_key_count, light_pair_count}
+use Rattle.pp_graph.specs.KeyRows.{row_of, flat_sum}
 use Rattle.pp_tree.specs.Nodes.{Near, Node, table_heading, tree_nodes_text}
 
 -- the other end of an edge, as it is printed
 abbrev pub near_of : Neighbour Written → Near
 near_of neighbour = record { value = neighbour.value; name = name_text neighbour.key }
 
--- the node of a key that the report shows
-abbrev pub node_of : Profile → Finders → Config → Option ℕ → ℕ → Written → Node
-node_of p f config column limit k = record {
-  row = key_row (report_samples p f config column) k;
-  callers = map near_of (callers_of p f config column limit k);
-  callees = map near_of (callees_of p f config column limit k);
+-- a key with its callers and callees over the keys that are kept, by edges of at least this fraction of the total
+abbrev pub node_of : Figures → (Written → Bool) → ℕ → Written → Node
+node_of g kept billionths k = record {
+  row = row_of g k;
+  callers = map near_of (callers_of g kept billionths k);
+  callees = map near_of (callees_of g kept billionths k);
 }
 
 -- what the nodes account for, how many nodes and edges are too light, and how many of the other nodes are shown
@@ -32,13 +35,19 @@ summary_text h sum nodes edges shown candidates =
     showing_line h.unit h.total sum ++ dropped_line lines.dropped_nodes nodes
     ++ dropped_line lines.dropped_edges edges ++ limited_line shown candidates
 
--- The text of the tree report with this limit, where 0 is none: its head, the heading, and the nodes in report order.
+-- the text of the tree report of these figures, with this limit, where 0 is none
+abbrev pub tree_layout : Figures → Presentation → ℕ → Facts → List ℕ
+tree_layout g presentation limit h =
+    let candidates = heavy_keys g presentation in
+    let shown = shown_keys limit candidates in
+    facts_text h
+    ++ summary_text h (flat_sum g shown) (light_key_count g presentation)
+    (light_pair_count g presentation shown) (length shown) (length candidates)
+    ++ table_heading
+    ++ tree_nodes_text h.unit h.total (pos 0)
+    (map (node_of g (λ k. has key_cmp k shown) presentation.edgefraction.billionths) shown)
+
+-- The text of the tree report with this limit: its head, the heading, and the nodes in report order.
 abbrev pub tree_text : Profile → Finders → Config → Option ℕ → ℕ → Facts → List ℕ
 tree_text p f config column limit h =
-    let keys = report_keys p f config column limit in
-    facts_text h
-    ++ summary_text h (flat_sum (report_samples p f config column) keys)
-    (light_nodes p f config column) (light_edges p f config column limit) (length keys)
-    (length (candidate_keys p f config column))
-    ++ table_heading
-    ++ tree_nodes_text h.unit h.total (pos 0) (map (node_of p f config column limit) keys)
+    tree_layout (figures p f config column) config.presentation limit h

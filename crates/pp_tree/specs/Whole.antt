@@ -4,12 +4,8 @@ use Rattle.pp_model.specs.declared.config.Config.{Config}
 use Rattle.pp_model.specs.declared.profile.Profile.{Profile}
 use Rattle.pp_model.specs.Finders.{Finders}
 use Rattle.pp_model.specs.FrameTexts.{Written}
-use Rattle.pp_grain.specs.Keys.{key_cmp}
-use Rattle.pp_count.specs.Counted.{report_samples}
-use Rattle.pp_count.specs.Counts.{total_of}
-use Rattle.pp_count.specs.EdgeSums.{edge_sum}
-use Rattle.pp_count.specs.Sums.{all_keys}
-use Rattle.pp_graph.specs.Trim.{has_heavy_edge}
+use Rattle.pp_graph.specs.Figures.{figures}
+use Rattle.pp_graph.specs.Trim.{is_heavy_pair}
 use Rattle.pp_tree.specs.Ends.{Pairs}
 
 -- whether a key is kept, where all are
@@ -19,11 +15,9 @@ any_key _ = true
 -- all pairs that occur
 abbrev pub all_pairs : Profile → Finders → Config → Option ℕ → Pairs
 all_pairs p f config column = record {
-  shows =
-      has_heavy_edge key_cmp any_key (report_samples p f config column)
-      (total_of p f config column) 0;
-  value = edge_sum key_cmp any_key (report_samples p f config column);
-  keys = all_keys (report_samples p f config column);
+  shows = is_heavy_pair (figures p f config column) any_key 0;
+  value = (figures p f config column).sum_of_pair any_key;
+  keys = (figures p f config column).keys;
 }
 
 -- of these pairs those of which an end is a key of its own
