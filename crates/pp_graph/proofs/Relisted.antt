@@ -19,8 +19,9 @@ use Rattle.pp_grain.proofs.CallerLemmas.{key_cmp_total, key_cmp_ties}
 use Rattle.pp_count.specs.Counted.{report_samples}
 use Rattle.pp_count.specs.Counts.{total_of}
 use Rattle.pp_count.specs.Ranks.{each_once}
-use Rattle.pp_count.specs.Sums.{Seen, all_keys}
+use Rattle.pp_count.specs.Sums.{Seen, all_keys, occurs}
 use Rattle.pp_count.proofs.EachOnce.{same_ties}
+use Rattle.pp_count.proofs.Renaming.{all_keys_occur}
 use Rattle.pp_count.proofs.Ties.{key_decides, tied}
 use Rattle.pp_graph.specs.Sampled.{report_order, is_heavy_cum, heavy_listed, light_count}
 use Rattle.pp_graph.specs.Trim.{all_report_keys, candidate_keys, light_nodes}
@@ -59,6 +60,16 @@ counted_once test xs =
     let apart : IsDistinct (eq_by_cmp key_cmp) (filter test (each_once key_cmp xs)) =
     subst (IsDistinct (eq_by_cmp key_cmp)) (each_once-filter key_cmp_total key_cmp_ties test xs) (each_once_apart key_cmp (filter test xs)) in
     sym (length-from_keys (eq_by_cmp_equiv key_cmp_total) (filter test (each_once key_cmp xs)) (filter test xs) apart (λ k. sym (passing test xs k)))
+
+-- Samples in which keys occur alike have one list of keys.
+pub keys_alike : (ss ts : List (Seen Written)) → ((k : Written) → occurs key_cmp ss k ≡ occurs key_cmp ts k) → each_once key_cmp (all_keys ss) ≡ each_once key_cmp (all_keys ts)
+keys_alike ss ts occur =
+    each_once_same key_cmp_total key_cmp_ties (all_keys ss) (all_keys ts)
+    (λ k. all_keys_occur key_cmp ss k ∙ occur k ∙ sym (all_keys_occur key_cmp ts k))
+
+-- The keys of the list are those that occur.
+pub listed_occur : (samples : List (Seen Written)) (k : Written) → list_any (eq_by_cmp key_cmp k) (each_once key_cmp (all_keys samples)) ≡ occurs key_cmp samples k
+listed_occur samples k = each_once_members key_cmp_total (all_keys samples) k ∙ all_keys_occur key_cmp samples k
 
 module _ (p : Profile) (f : Finders) (config : Config) (column : Option ℕ) where
   abbrev samples : List (Seen Written)

@@ -25,7 +25,7 @@ use Rattle.pp_graph.proofs.Ordering.{report_total, report_same}
 use Rattle.pp_laws.specs.Figures.{has_frames}
 use Rattle.pp_laws.specs.Flats.{FlatsAddUp, RowsAddUp, AllKeysAddUp}
 use Rattle.pp_graph.proofs.Listed.{each_once_apart, each_once_members}
-use Rattle.pp_count.proofs.Renaming.{all_keys_occur}
+use Rattle.pp_graph.proofs.Relisted.{listed_occur}
 use Rattle.pp_laws.proofs.Sampling.{flats_add_up, sum_where-weighed}
 
 flats_of : (p : Profile) (samples : List (Seen Written)) (sums : Sums) → AreSumsOf p samples sums → int_sum sums.flat ≡ sum_where has_frames samples
@@ -50,29 +50,31 @@ order_ties sort samples = λ i x y. same_ties (report_total samples sort) (repor
 pub rows_counted : RowsAddUp
 rows_counted p f config column none =
     let samples = report_samples p f config column in
+    let once : List Written = each_once key_cmp (all_keys samples) in
     let order = report_order key_cmp config.presentation.sort samples in
     let ties : eq_by_cmp order ≡ eq_by_cmp key_cmp = order_ties config.presentation.sort samples in
     let heavy : Written → Bool = is_heavy_cum key_cmp (total_of p f config column) config.presentation.nodefraction.billionths samples in
-    let keys : List Written = each_once order (filter heavy (all_keys samples)) in
-    let apart : IsDistinct (eq_by_cmp key_cmp) keys = subst (λ e. IsDistinct e keys) ties (each_once_apart order (filter heavy (all_keys samples))) in
+    let keys : List Written = each_once order (filter heavy once) in
+    let apart : IsDistinct (eq_by_cmp key_cmp) keys = subst (λ e. IsDistinct e keys) ties (each_once_apart order (filter heavy once)) in
     let known : (k : Written) → occurs key_cmp samples k ≡ true → list_any (eq_by_cmp key_cmp k) keys ≡ true = λ k is.
-    (λ i. list_any (sym ties i k) keys) ∙ each_once_members (report_total samples config.presentation.sort) (filter heavy (all_keys samples)) k
-    ∙ (λ i. list_any (ties i k) (filter heavy (all_keys samples)))
-    ∙ any-filter_same (eq_by_cmp key_cmp k) heavy true (λ q e. heavy_always (total_of p f config column) config.presentation.nodefraction.billionths (cum key_cmp samples q) none) (all_keys samples)
-    ∙ all_keys_occur key_cmp samples k ∙ is in
+    (λ i. list_any (sym ties i k) keys) ∙ each_once_members (report_total samples config.presentation.sort) (filter heavy once) k
+    ∙ (λ i. list_any (ties i k) (filter heavy once))
+    ∙ any-filter_same (eq_by_cmp key_cmp k) heavy true (λ q e. heavy_always (total_of p f config column) config.presentation.nodefraction.billionths (cum key_cmp samples q) none) once
+    ∙ listed_occur samples k ∙ is in
     flats_add_up key_cmp_total samples keys apart known
     ∙ sum_where-weighed has_frames (seen_samples p f config column p.sample)
 
 pub all_counted : AllKeysAddUp
 all_counted p f config column =
     let samples = report_samples p f config column in
+    let once : List Written = each_once key_cmp (all_keys samples) in
     let order = report_order key_cmp config.presentation.sort samples in
     let ties : eq_by_cmp order ≡ eq_by_cmp key_cmp = order_ties config.presentation.sort samples in
     let keys : List Written = all_report_keys p f config column in
-    let apart : IsDistinct (eq_by_cmp key_cmp) keys = subst (λ e. IsDistinct e keys) ties (each_once_apart order (all_keys samples)) in
+    let apart : IsDistinct (eq_by_cmp key_cmp) keys = subst (λ e. IsDistinct e keys) ties (each_once_apart order once) in
     let known : (k : Written) → occurs key_cmp samples k ≡ true → list_any (eq_by_cmp key_cmp k) keys ≡ true = λ k is.
-    (λ i. list_any (sym ties i k) keys) ∙ each_once_members (report_total samples config.presentation.sort) (all_keys samples) k
-    ∙ (λ i. list_any (ties i k) (all_keys samples))
-    ∙ all_keys_occur key_cmp samples k ∙ is in
+    (λ i. list_any (sym ties i k) keys) ∙ each_once_members (report_total samples config.presentation.sort) once k
+    ∙ (λ i. list_any (ties i k) once)
+    ∙ listed_occur samples k ∙ is in
     flats_add_up key_cmp_total samples keys apart known
     ∙ sum_where-weighed has_frames (seen_samples p f config column p.sample)

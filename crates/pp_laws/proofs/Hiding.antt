@@ -24,10 +24,11 @@ trimming_hides none p f config column limit zero =
     let total : ℕ = total_of p f config column in
     let order = report_order key_cmp config.presentation.sort samples in
     let heavy : Written → Bool = is_heavy_cum key_cmp total config.presentation.nodefraction.billionths samples in
+    let keys : List Written = each_once key_cmp (all_keys samples) in
     record {
       rows = ap (shown_keys limit)
-          (each_once-filter (report_total samples config.presentation.sort) (report_same samples config.presentation.sort) heavy (all_keys samples)
-          ∙ ap (λ ks. filter heavy (each_once order ks)) (sym (kept_all (is_heavy_cum key_cmp total none.billionths samples) (all_keys samples) (λ k. heavy_always total none.billionths (cum key_cmp samples k) zero))));
+          (each_once-filter (report_total samples config.presentation.sort) (report_same samples config.presentation.sort) heavy keys
+          ∙ ap (λ ks. filter heavy (each_once order ks)) (sym (kept_all (is_heavy_cum key_cmp total none.billionths samples) keys (λ k. heavy_always total none.billionths (cum key_cmp samples k) zero))));
       samples = refl;
       total = refl;
     }

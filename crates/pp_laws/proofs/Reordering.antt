@@ -3,13 +3,11 @@ use Rattle.std.proofs.Common.{◌≡◌, ℕ, ◌+◌, Bool, true, false, cond, 
 use Rattle.std.specs.List.{filter, filter_map, list_any, sum_by, cons_option}
 use Rattle.std.specs.List.Sorted.{IsPermutation}
 use Rattle.std.specs.Option.{is_some, option_map_or}
-use Rattle.std.specs.Ordering.{eq_by_cmp, int_eq, then_cmp}
+use Rattle.std.specs.Ordering.{int_eq}
 use Rattle.std.proofs.lemmas.List.Sorted.{list_any-IsPermutation, sum_by-IsPermutation}
 use Rattle.std.proofs.lemmas.List.Sums.{sum_by-cons}
-use Rattle.std.proofs.lemmas.Map.Views.{any-filter_same}
 use Rattle.pp_model.specs.declared.config.Config.{Config}
 use Rattle.pp_model.specs.declared.presentation.Sort.{Sort}
-use Rattle.pp_model.specs.declared.presentation.Sort.TheVariants as sorts
 use Rattle.pp_model.specs.declared.frame.Frame.{Frame}
 use Rattle.pp_model.specs.declared.profile.Profile.{Profile}
 use Rattle.pp_model.specs.declared.profile.Sample.{Sample}
@@ -22,17 +20,13 @@ use Rattle.pp_count.specs.EdgeSums.{has_edge}
 use Rattle.pp_count.specs.Seeing.{filtered_stack, seen_with, seen}
 use Rattle.pp_count.specs.Counts.{is_base, filtered_samples, total_by, total_over, total_of}
 use Rattle.pp_count.specs.Counted.{report_samples}
-use Rattle.pp_count.specs.Ranks.{by_size, each_once, is_heavy}
-use Rattle.pp_count.proofs.Renaming.{all_keys_occur}
-use Rattle.pp_count.proofs.Ties.{tied}
+use Rattle.pp_count.specs.Ranks.{each_once, is_heavy}
 use Rattle.pp_graph.specs.Sampled.{is_heavy_cum, report_order}
-use Rattle.pp_graph.specs.Trim.{shown_keys}
-use Rattle.pp_graph.proofs.Ordering.{report_total, report_same}
+use Rattle.pp_graph.specs.Trim.{shown_keys, sums_order}
 use Rattle.pp_laws.specs.Order.{HaveSameFigures, with_samples, OrderIsFree}
 use Rattle.pp_laws.proofs.IntSums.{sum_permuted}
 use Rattle.pp_laws.proofs.Sampling.{part, sum_seen}
-use Rattle.pp_graph.proofs.Listed.{each_once_same}
-use Rattle.pp_laws.proofs.AddingUp.{order_ties}
+use Rattle.pp_graph.proofs.Relisted.{keys_alike}
 
 -- the sum over the items that a filter leaves, as one over all
 sum_filtered : {X : Type 0} (f : X → ℕ) (test : X → Bool) (xs : List X) → sum_by f (filter test xs) ≡ sum_by (λ x. cond (test x) (f x) 0) xs
@@ -57,29 +51,15 @@ any_seen {Y = Y} test g (x ∷ xs) =
       ]
     ]
 
--- orders by the same sums are the same
-pub same_order : (sort : Sort) (ss ts : List (Seen Written)) → flat key_cmp ss ≡ flat key_cmp ts → cum key_cmp ss ≡ cum key_cmp ts
-    → report_order key_cmp sort ss ≡ report_order key_cmp sort ts
-same_order sorts.Flat ss ts flats cums = λ i. then_cmp (by_size (flats i)) (then_cmp (by_size (cums i)) key_cmp)
-same_order sorts.Cum ss ts flats cums = λ i. then_cmp (by_size (cums i)) (then_cmp (by_size (flats i)) key_cmp)
-
 -- samples with the same sums and the same keys show the same rows
 same_rows : (sort : Sort) (total other billionths : ℕ) (ss ts : List (Seen Written)) → total ≡ other
     → ((k : Written) → flat key_cmp ss k ≡ flat key_cmp ts k) → ((k : Written) → cum key_cmp ss k ≡ cum key_cmp ts k)
     → ((k : Written) → occurs key_cmp ss k ≡ occurs key_cmp ts k)
-    → each_once (report_order key_cmp sort ss) (filter (is_heavy_cum key_cmp total billionths ss) (all_keys ss))
-    ≡ each_once (report_order key_cmp sort ts) (filter (is_heavy_cum key_cmp other billionths ts) (all_keys ts))
-same_rows sort total other billionths ss ts totals flats cums occur =
-    let order = report_order key_cmp sort ts in
-    let heavy : Written → Bool = is_heavy_cum key_cmp other billionths ts in
-    let ties : eq_by_cmp order ≡ eq_by_cmp key_cmp = order_ties sort ts in
-    let among : (xs : List Written) (k : Written) → list_any (eq_by_cmp key_cmp k) (filter heavy xs) ≡ (heavy k && list_any (eq_by_cmp key_cmp k) xs) = λ xs k.
-    any-filter_same (eq_by_cmp key_cmp k) heavy (heavy k) (λ q e. ap heavy (sym (tied k q e))) xs in
-    (λ i. each_once (same_order sort ss ts (λ j k. flats k j) (λ j k. cums k j) i) (filter (λ k. is_heavy (totals i) billionths (cums k i)) (all_keys ss)))
-    ∙ each_once_same (report_total ts sort) (report_same ts sort) (filter heavy (all_keys ss)) (filter heavy (all_keys ts)) (λ k.
-    (λ i. list_any (ties i k) (filter heavy (all_keys ss))) ∙ among (all_keys ss) k
-    ∙ ap (λ b. heavy k && b) (all_keys_occur key_cmp ss k ∙ occur k ∙ sym (all_keys_occur key_cmp ts k))
-    ∙ sym (among (all_keys ts) k) ∙ (λ i. list_any (sym ties i k) (filter heavy (all_keys ts))))
+    → each_once (report_order key_cmp sort ss) (filter (is_heavy_cum key_cmp total billionths ss) (each_once key_cmp (all_keys ss)))
+    ≡ each_once (report_order key_cmp sort ts) (filter (is_heavy_cum key_cmp other billionths ts) (each_once key_cmp (all_keys ts)))
+same_rows sort total other billionths ss ts totals flats cums occur = λ i.
+    each_once (sums_order sort (λ k. flats k i) (λ k. cums k i) key_cmp)
+    (filter (λ k. is_heavy (totals i) billionths (cums k i)) (keys_alike ss ts occur i))
 
 -- What reports are told from: items of which each is seen or dropped, has a value, and is of the base or isn't.
 module _ {X : Type 0} (sees : X → Option (Seen Written)) (value : X → ℤ) (is_one : X → Bool) where

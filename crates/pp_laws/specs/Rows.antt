@@ -5,9 +5,9 @@ use Rattle.pp_base.specs.declared.fraction.Fraction.{Fraction}
 use Rattle.pp_model.specs.declared.config.Config.{Config}
 use Rattle.pp_model.specs.declared.profile.Profile.{Profile}
 use Rattle.pp_model.specs.Finders.{Finders}
-use Rattle.pp_grain.specs.Keys.{key_cmp}
 use Rattle.pp_count.specs.Counts.{total_of}
 use Rattle.pp_count.specs.Counted.{report_samples}
+use Rattle.pp_graph.specs.Figures.{figures}
 use Rattle.pp_graph.specs.Trim.{report_keys, shown_keys, is_heavy_key}
 
 -- the variables with this nodefraction
@@ -21,8 +21,7 @@ pub record OnlyHides (none : Fraction) (p : Profile) (f : Finders) (config : Con
     (limit : ℕ) : Type 0 where
   pub rows : report_keys p f config column limit
       ≡ shown_keys limit (filter
-      (is_heavy_key key_cmp (total_of p f config column) config.presentation.nodefraction.billionths
-      (report_samples p f config column))
+      (is_heavy_key (figures p f config column) config.presentation)
       (report_keys p f (at_nodefraction none config) column 0))
   pub samples : report_samples p f (at_nodefraction none config) column ≡ report_samples p f config column
   pub total : total_of p f (at_nodefraction none config) column ≡ total_of p f config column

@@ -1,7 +1,7 @@
 //! The order of samples does not matter.
 ghost use Rattle.pp_laws.specs.Order.{OrderIsFree, LoadedOrderIsFree};
 
-// What would break it: sums that depend on the turn of a sample, or a `report_order` (pp_graph, `Trim`) that breaks
+// What would break it: sums that depend on the turn of a sample, or a `sums_order` (pp_graph, `Trim`) that breaks
 // ties by first sight.
 /// A profile and one with its samples in another order have the same columns and the same total. Every key and edge has
 /// the same figures in both, and they show the same rows in the same order.

@@ -1,7 +1,7 @@
 //! The unit only spells.
 ghost use Rattle.pp_laws.specs.Units.{RowsStay, UnitsSpell, PickedUnitsSpell, ForcedUnitsSpell, EachUnitsSpell, EachIsPicked, EachTellsZero};
 
-// What would break it: a column, a total or a `report_order` (pp_graph, `Trim`) that looks at the unit. Or a `rounded`
+// What would break it: a column, a total or a `sums_order` (pp_graph, `Trim`) that looks at the unit. Or a `rounded`
 // (pp_units) that cuts off in place of rounding. Or a `to_at` that looks at the total.
 /// A report in another unit has the same rows in the same order, of the same figures. Each printed value is the nearest
 /// hundredth of the same sum, on the same side of 0. If each value has its own unit, it is printed as beside a total of

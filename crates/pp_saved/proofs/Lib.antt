@@ -1,5 +1,3 @@
-pub mod Relisted
-pub mod Printed
 pub mod FramedStacks
 pub mod SavedTotals
 pub mod SavedSizes

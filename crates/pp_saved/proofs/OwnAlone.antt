@@ -17,8 +17,9 @@ use Rattle.pp_count.specs.Seeing.{filtered_stack, seen_with, framed_with}
 use Rattle.pp_count.specs.Counts.{total_over}
 use Rattle.pp_count.specs.Counted.{report_frames, report_samples}
 use Rattle.pp_count.specs.Ranks.{each_once}
+use Rattle.pp_graph.specs.Figures.{is_found_frame}
 use Rattle.pp_report.specs.Heads.{column_type, first_file}
-use Rattle.pp_saved.specs.Figures.{Figures, figures, is_found_frame}
+use Rattle.pp_saved.specs.Headed.{HeadedFigures, headed_figures}
 use Rattle.pp_saved.specs.Premises.{unfiltered, own_alone}
 
 module _ (q : Profile) (f : Finders) (config : Config) (column : Option ℕ) where
@@ -39,22 +40,24 @@ module _ (q : Profile) (f : Finders) (config : Config) (column : Option ℕ) whe
   frames_by left = weighed (filter_map (λ s. option_map (framed_with q d column s) (left s)) q.sample)
 
   -- the figures, where these stacks are left of samples
-  abbrev figures_by : (Sample → Option (List Frame)) → Figures
+  abbrev figures_by : (Sample → Option (List Frame)) → HeadedFigures
   figures_by left = record {
     column = column;
     value_type = column_type q column;
-    total = total_over q d.presentation column (if d.presentation.relative_percentages then filter (λ s. is_some (left s)) q.sample else q.sample);
     file = first_file q;
     duration = q.duration_nanos;
-    keys = each_once key_cmp (all_keys (samples_by left));
-    finds = λ test k. list_any (λ s. list_any (is_found_frame d.grouping test k) s.keys) (frames_by left);
-    flat_of = flat key_cmp (samples_by left);
-    cum_of = cum key_cmp (samples_by left);
-    occurs_pair = λ kept. edge_occurs key_cmp kept (samples_by left);
-    sum_of_pair = λ kept. edge_sum key_cmp kept (samples_by left);
+    figures = record {
+      total = total_over q d.presentation column (if d.presentation.relative_percentages then filter (λ s. is_some (left s)) q.sample else q.sample);
+      keys = each_once key_cmp (all_keys (samples_by left));
+      finds = λ test k. list_any (λ s. list_any (is_found_frame d.grouping test k) s.keys) (frames_by left);
+      flat_of = flat key_cmp (samples_by left);
+      cum_of = cum key_cmp (samples_by left);
+      occurs_pair = λ kept. edge_occurs key_cmp kept (samples_by left);
+      sum_of_pair = λ kept. edge_sum key_cmp kept (samples_by left);
+    };
   }
 
-  pub own_figures : figures q (own_alone f) d column ≡ figures q no_finders d column
+  pub own_figures : headed_figures q (own_alone f) d column ≡ headed_figures q no_finders d column
   own_figures = ap figures_by same_stacks
 
   pub own_samples : report_samples q (own_alone f) d column ≡ report_samples q no_finders d column

@@ -12,13 +12,11 @@ use Rattle.pp_model.specs.FrameTexts.{Written}
 use Rattle.pp_model.specs.Rules.{IsCompact}
 use Rattle.pp_grain.specs.Keys.{key_cmp}
 use Rattle.pp_grain.proofs.CallerLemmas.{key_cmp_total, key_cmp_ties}
-use Rattle.pp_count.specs.Sums.{Seen, weighed, all_keys, has, leads, absolute, sum_where}
+use Rattle.pp_count.specs.Sums.{Seen, weighed, has, leads, absolute, sum_where}
 use Rattle.pp_count.specs.EdgeSums.{has_edge}
 use Rattle.pp_count.specs.Seeing.{filtered_stack, seen_with, framed_with, seen_samples}
 use Rattle.pp_count.specs.Counts.{total_of}
 use Rattle.pp_count.specs.Counted.{report_samples, report_frames, finds_own}
-use Rattle.pp_count.specs.Ranks.{each_once}
-use Rattle.pp_count.proofs.Renaming.{all_keys_occur}
 use Rattle.pp_share.specs.Header.{HeaderText}
 use Rattle.pp_merge.specs.Merge.{contents}
 use Rattle.pp_merge.proofs.WrittenCompact.{compact_written}
@@ -30,16 +28,19 @@ use Rattle.pp_calltree.specs.CallTree.{rooted}
 use Rattle.pp_export.specs.Folded.{path_lines}
 use Rattle.pp_dump.proofs.SeenSums.{IsNatural}
 use Rattle.pp_dump.proofs.WholeStacks.{whole_left}
-use Rattle.pp_graph.proofs.Listed.{each_once_same}
+use Rattle.pp_graph.specs.Figures.{Figures, figures, is_found_frame}
+use Rattle.pp_graph.proofs.Relisted.{keys_alike}
+use Rattle.pp_top.specs.Top.{top_layout}
+use Rattle.pp_tree.specs.Tree.{tree_layout}
+use Rattle.pp_tree.specs.Peek.{peek_layout}
+use Rattle.pp_export.specs.Table.{table_layout}
 use Rattle.pp_laws.proofs.Sampling.{sum_where-weighed}
 use Rattle.pp_report.specs.Heads.{first_file}
-use Rattle.pp_saved.specs.Figures.{Figures, figures, is_found_frame}
+use Rattle.pp_saved.specs.Headed.{HeadedFigures, headed_figures}
 use Rattle.pp_saved.specs.Premises.{CanSave, unfiltered, own_alone}
 use Rattle.pp_saved.specs.Kept.{SavedFigures, SavedTexts, SavedColumns, SavedLasts}
-use Rattle.pp_saved.specs.Layouts.{top_layout, tree_layout, peek_layout, table_layout}
 use Rattle.pp_saved.proofs.FramedStacks.{own_natural, saved_natural, frames_found}
 use Rattle.pp_saved.proofs.OwnAlone.{own_figures, own_frames, own_samples}
-use Rattle.pp_saved.proofs.Printed.{top_is, tree_is, peek_is, table_is}
 use Rattle.pp_saved.proofs.PathsAlike.{AddUpAlike, rooted_alike, all_paths_alike}
 use Rattle.pp_saved.proofs.SavedHead.{same_type, same_duration, same_file}
 use Rattle.pp_saved.proofs.Saving.{IsSaved, is_saved}
@@ -127,24 +128,21 @@ module _ (p : Profile) (f : Finders) (config : Config) (q : Profile) (can : CanS
         relative_total q no_finders d column can.relative (none_of_base p f config.filtering q is.stacks can.plain)
         ∙ same.absolutes ∙ sym (relative_total p f config column can.relative can.plain)
 
-    keys_are : each_once key_cmp (all_keys (report_samples q no_finders d column)) ≡ each_once key_cmp (all_keys (report_samples p f config column))
-    keys_are =
-        each_once_same key_cmp_total key_cmp_ties _ _ (λ k.
-        all_keys_occur key_cmp (report_samples q no_finders d column) k ∙ same.some (has key_cmp k) ∙ sym (all_keys_occur key_cmp (report_samples p f config column) k))
-
-    pub alone : figures q no_finders d column ≡ figures p f config column
+    pub alone : headed_figures q no_finders d column ≡ headed_figures p f config column
     alone = λ i. record {
       column = column;
       value_type = same_type p q column is.header.header i;
-      total = total_is i;
       file = (ap first_file is.is ∙ same_file p f config.filtering) i;
       duration = (ap (λ (r : Profile). r.duration_nanos) is.is ∙ same_duration p f config.filtering can.settled) i;
-      keys = keys_are i;
-      finds = λ test k. same.frames (list_any (is_found_frame config.grouping test k)) i;
-      flat_of = λ k. same.sums (leads key_cmp k) i;
-      cum_of = λ k. same.sums (has key_cmp k) i;
-      occurs_pair = λ kept a b. same.some (has_edge key_cmp kept a b) i;
-      sum_of_pair = λ kept a b. same.sums (has_edge key_cmp kept a b) i;
+      figures = record {
+        total = total_is i;
+        keys = keys_alike (report_samples q no_finders d column) (report_samples p f config column) (λ k. same.some (has key_cmp k)) i;
+        finds = λ test k. same.frames (list_any (is_found_frame config.grouping test k)) i;
+        flat_of = λ k. same.sums (leads key_cmp k) i;
+        cum_of = λ k. same.sums (has key_cmp k) i;
+        occurs_pair = λ kept a b. same.some (has_edge key_cmp kept a b) i;
+        sum_of_pair = λ kept a b. same.sums (has_edge key_cmp kept a b) i;
+      };
     }
 
 -- the saved profile keeps what saving keeps
@@ -162,14 +160,14 @@ saved_texts p f config column can within =
     let q : Profile = saved p f config.filtering in
     let g : Finders = own_alone f in
     let d : Config = unfiltered config in
-    let figs : figures q g d column ≡ figures p f config column = saved_figures p f config column can within in
+    let figs : figures q g d column ≡ figures p f config column = ap (λ (h : HeadedFigures). h.figures) (saved_figures p f config column can within) in
     record {
-      top = λ limit h. top_is q g d column limit h ∙ ap (λ (a : Figures). top_layout a config.presentation limit h) figs ∙ sym (top_is p f config column limit h);
-      tree = λ limit h. tree_is q g d column limit h ∙ ap (λ (a : Figures). tree_layout a config.presentation limit h) figs ∙ sym (tree_is p f config column limit h);
+      top = λ limit h. ap (λ (a : Figures). top_layout a config.presentation limit h) figs;
+      tree = λ limit h. ap (λ (a : Figures). tree_layout a config.presentation limit h) figs;
       found = ap (list_any (λ (s : Seen Written). list_any (finds_own f) s.keys)) (own_frames q f config column)
           ∙ (counted p f config q can (saving p f config can) column within).frames (list_any (finds_own f));
-      peek = λ h. peek_is q g d column h ∙ ap (λ (a : Figures). peek_layout a config.presentation f.own h) figs ∙ sym (peek_is p f config column h);
-      table = λ limit unit. table_is q g d column limit unit ∙ ap (λ (a : Figures). table_layout a config.presentation limit unit) figs ∙ sym (table_is p f config column limit unit);
+      peek = λ h. ap (λ (a : Figures). peek_layout a config.presentation f.own h) figs;
+      table = λ limit unit. ap (λ (a : Figures). table_layout a config.presentation limit unit) figs;
       folded = ap (λ (ss : List (Seen Written)). path_lines (all_paths key_cmp (map rooted ss))) (own_samples q f config column)
           ∙ ap path_lines (paths_are p f config q can (saving p f config can) column within);
     }

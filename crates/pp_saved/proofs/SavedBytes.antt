@@ -38,7 +38,7 @@ use Rattle.pp_report.specs.SavedText.{IsProtoBy}
 use Rattle.pp_report.specs.Tagged.{basis_of}
 use Rattle.pp_report.proofs.PreparingLemmas.{showing_counts}
 use Rattle.pp_report.proofs.TypesLemmas.{same_column}
-use Rattle.pp_saved.specs.Figures.{figures}
+use Rattle.pp_saved.specs.Headed.{headed_figures}
 use Rattle.pp_saved.specs.Premises.{CanSave, CountsFiltered, HasFiltersOf, IsSource, unfiltered}
 use Rattle.pp_saved.specs.SavedBytes.{AllTaken, IsSavedText, ReportsAlike, SavedBytes, outcome_over, report_figures}
 use Rattle.pp_saved.specs.SavedReports.{IsPlain, IsSavedOf, NamesNoKey, ReportAlike, saved_by}
@@ -181,11 +181,11 @@ module _ (finds : Finds) (l r : Loaded) (c : Config) (can : CanSave l.profile c.
 
   figures_alike : (report : Report) → report_figures finds r report d ≡ report_figures finds l report c
   figures_alike report =
-      ap (option_map (figures r.profile (report_finders finds r report d.filtering) d)) (same_column l.profile r.profile (types_are finds l r report c can is) c.presentation.sample_index)
+      ap (option_map (headed_figures r.profile (report_finders finds r report d.filtering) d)) (same_column l.profile r.profile (types_are finds l r report c can is) c.presentation.sample_index)
       ∙ by (column_of l.profile c.presentation.sample_index) (column_bound l.profile c.presentation.sample_index)
     where
       by : (o : Option (Option ℕ)) → ((column : Option ℕ) → o ≡ Some column → IsColumnOf l.profile column)
-          → option_map (figures r.profile (report_finders finds r report d.filtering) d) o ≡ option_map (figures l.profile (report_finders finds l report c.filtering) c) o
+          → option_map (headed_figures r.profile (report_finders finds r report d.filtering) d) o ≡ option_map (headed_figures l.profile (report_finders finds l report c.filtering) c) o
       by None known = refl
       by (Some column) known = ap Some (figures_are finds l r report c can is column (known column refl) None)
 

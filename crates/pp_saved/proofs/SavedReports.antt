@@ -39,28 +39,28 @@ use Rattle.pp_report.specs.Tagged.{basis_of}
 use Rattle.pp_saved.specs.SavedReports.{SavedReports, IsSavedOf, NamesNoKey}
 use Rattle.pp_saved.specs.StaysSaved.{stays_saved}
 use Rattle.pp_report.proofs.TypesLemmas.{HasTypesOf, same_showing, same_unit, type_is, types_by_header}
-use Rattle.pp_saved.specs.Figures.{Figures, figures}
+use Rattle.pp_saved.specs.Headed.{HeadedFigures, headed_figures}
 use Rattle.pp_saved.specs.Kept.{PrintAlike}
 use Rattle.pp_saved.specs.Premises.{CanSave, unfiltered, own_alone}
 use Rattle.pp_saved.proofs.SavedAlike.{saved_figures, saved_texts}
 use Rattle.pp_saved.proofs.Saving.{is_saved}
 
 -- the head follows from the figures
-abbrev head_by : Figures → Option Shown → Facts
+abbrev head_by : HeadedFigures → Option Shown → Facts
 head_by g wanted = record {
   file = g.file;
   kind = option_map_or (λ (t : TypeText). t.kind) g.value_type [];
   duration = g.duration;
-  total = g.total;
-  unit = unwrap_or wanted (picked g.total (option_map_or (λ (t : TypeText). t.unit) g.value_type []));
+  total = g.figures.total;
+  unit = unwrap_or wanted (picked g.figures.total (option_map_or (λ (t : TypeText). t.unit) g.value_type []));
 }
 
 head_is : (p : Profile) (f : Finders) (config : Config) (column : Option ℕ) (wanted : Option Shown)
-    → head_by (figures p f config column) wanted ≡ report_head p f config column wanted
+    → head_by (headed_figures p f config column) wanted ≡ report_head p f config column wanted
 head_is p f config column wanted =
-    let total : ℕ = (figures p f config column).total in
+    let total : ℕ = (headed_figures p f config column).figures.total in
     λ i. record {
-      file = (figures p f config column).file;
+      file = (headed_figures p f config column).file;
       kind = type_is (λ (t : TypeText). t.kind) p column i;
       duration = p.duration_nanos;
       total = total;
@@ -96,8 +96,8 @@ module _ (finds : Finds) (l r : Loaded) (report : Report) (config : Config) (can
       (types_by_header l.profile (saved l.profile f config.filtering) (is_saved l.profile f config can.valid can.starts can.settled).header.header)
 
   module _ (column : Option ℕ) (within : IsColumnOf l.profile column) (wanted : Option Shown) where
-    pub figures_are : figures r.profile g (unfiltered config) column ≡ figures l.profile f config column
-    figures_are = (λ i. figures (profile_is i) (finders_are i) (unfiltered config) column) ∙ saved_figures l.profile f config column can within
+    pub figures_are : headed_figures r.profile g (unfiltered config) column ≡ headed_figures l.profile f config column
+    figures_are = (λ i. headed_figures (profile_is i) (finders_are i) (unfiltered config) column) ∙ saved_figures l.profile f config column can within
 
     texts_are : PrintAlike l.profile f config r.profile g (unfiltered config) column
     texts_are =
@@ -112,7 +112,7 @@ module _ (finds : Finds) (l r : Loaded) (report : Report) (config : Config) (can
 
     heads_are : theirs ≡ ours
     heads_are =
-        sym (head_is r.profile g (unfiltered config) column wanted) ∙ ap (λ (x : Figures). head_by x wanted) figures_are
+        sym (head_is r.profile g (unfiltered config) column wanted) ∙ ap (λ (x : HeadedFigures). head_by x wanted) figures_are
         ∙ head_is l.profile f config column wanted
 
     top_same : (limit : ℕ) → top_text r.profile g (unfiltered config) column limit theirs ≡ top_text l.profile f config column limit ours

@@ -20,7 +20,7 @@ use Rattle.pp_tree.specs.Peek.{peek_text}
 use Rattle.pp_export.specs.Folded.{folded_text}
 use Rattle.pp_export.specs.Table.{exact_table}
 use Rattle.pp_report.specs.SavedText.{IsLasting}
-use Rattle.pp_saved.specs.Figures.{figures}
+use Rattle.pp_saved.specs.Headed.{headed_figures}
 use Rattle.pp_saved.specs.Premises.{CanSave, unfiltered, own_alone}
 
 -- Without filters a saved profile has the figures that the profile has with them.
@@ -28,8 +28,8 @@ abbrev pub SavedFigures : Type 0
 SavedFigures =
     (p : Profile) (f : Finders) (config : Config) (column : Option ℕ)
     → CanSave p config.presentation → IsColumnOf p column
-    → figures (saved p f config.filtering) (own_alone f) (unfiltered config) column
-    ≡ figures p f config column
+    → headed_figures (saved p f config.filtering) (own_alone f) (unfiltered config) column
+    ≡ headed_figures p f config column
 
 -- The two reports print the same: top, tree and peek under the same head, whether peek finds anything, table of the
 -- same unit, and folded.

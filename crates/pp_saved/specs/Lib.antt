@@ -1,7 +1,6 @@
-pub mod Figures
+pub mod Headed
 pub mod Premises
 pub mod Kept
-pub mod Layouts
 pub mod StaysSaved
 pub mod SavedReports
 pub mod SavedBytes

@@ -18,13 +18,13 @@ use Rattle.pp_report.specs.Patterns.{report_finders}
 use Rattle.pp_report.specs.Reports.{report_script}
 use Rattle.pp_report.specs.SavedText.{IsLasting, IsProtoBy}
 use Rattle.pp_report.specs.Tagged.{basis_of}
-use Rattle.pp_saved.specs.Figures.{Figures, asked_figures}
+use Rattle.pp_saved.specs.Headed.{HeadedFigures, asked_figures}
 use Rattle.pp_saved.specs.Premises.{HasFiltersOf, IsSource, CountsFiltered, unfiltered}
 use Rattle.pp_saved.specs.SavedReports.{IsPlain, IsSavedOf, NamesNoKey, saved_by}
 use Rattle.pp_saved.specs.StaysSaved.{stays_saved}
 
 -- the figures of a report, None where it asks for a column that is no sample type
-abbrev pub report_figures : Finds → Loaded → Report → Config → Option Figures
+abbrev pub report_figures : Finds → Loaded → Report → Config → Option HeadedFigures
 report_figures finds l report config =
     asked_figures l.profile (report_finders finds l report config.filtering) config
 

@@ -3,14 +3,11 @@
 //!
 //! Each law is the contract of a call that does nothing, over the definitions that the reports are proved against.
 //!
-//! Begin with `kept`, what a saved profile keeps. `layouts` says that top, tree and peek read nothing but figures.
-//! `reports` has the reports as a whole, with their heads and refusals.
+//! Begin with `kept`, what a saved profile keeps. `reports` has the reports as a whole, with their heads and refusals.
 #![tactic(auto)]
 
 mod kept;
-mod layouts;
 mod reports;
 
 pub use kept::{saved_figures, saved_lasts, saved_texts};
-pub use layouts::layouts_read_figures;
 pub use reports::{saved_bytes, saved_reports};

@@ -23,12 +23,14 @@ use Rattle.pp_count.specs.Counted.{report_samples, report_frames}
 use Rattle.pp_count.proofs.CallerLemmas.{key_of_written, keyed_frames, keyed_report}
 use Rattle.pp_count.proofs.Renaming.{all_keys_occur}
 use Rattle.pp_count.proofs.Ties.{key_decides}
+use Rattle.pp_graph.specs.Figures.{figures}
 use Rattle.pp_graph.specs.Sampled.{report_order}
 use Rattle.pp_graph.specs.Trim.{all_report_keys}
 use Rattle.pp_graph.proofs.Ordering.{report_total}
 use Rattle.pp_laws.specs.Figures.{NoneNegative}
 use Rattle.pp_laws.proofs.AddingUp.{order_ties}
 use Rattle.pp_laws.proofs.IntSums.{sum_over, sum_none, sum_plus, sum_same, one_match}
+use Rattle.pp_graph.proofs.Relisted.{listed_occur}
 use Rattle.pp_graph.proofs.Listed.{each_once_apart, each_once_members}
 use Rattle.pp_laws.proofs.Sampling.{part, none_weighed, sum_where_within}
 use Rattle.pp_sums.specs.Finer.{at_grain, is_finer, is_part, IsSumOfParts, PartsAddUp}
@@ -39,7 +41,7 @@ module _ (p : Profile) (f : Finders) (config : Config) (column : Option ℕ) whe
   rows_apart =
       let samples = report_samples p f config column in
       subst (λ e. IsDistinct e (all_report_keys p f config column)) (order_ties config.presentation.sort samples)
-      (each_once_apart (report_order key_cmp config.presentation.sort samples) (all_keys samples))
+      (each_once_apart (report_order key_cmp config.presentation.sort samples) (figures p f config column).keys)
 
   pub rows_known : (k : Written) → occurs key_cmp (report_samples p f config column) k ≡ true
       → list_any (eq_by_cmp key_cmp k) (all_report_keys p f config column) ≡ true
@@ -47,9 +49,9 @@ module _ (p : Profile) (f : Finders) (config : Config) (column : Option ℕ) whe
       let samples = report_samples p f config column in
       let ties : eq_by_cmp (report_order key_cmp config.presentation.sort samples) ≡ eq_by_cmp key_cmp = order_ties config.presentation.sort samples in
       (λ i. list_any (sym ties i k) (all_report_keys p f config column))
-      ∙ each_once_members (report_total samples config.presentation.sort) (all_keys samples) k
-      ∙ (λ i. list_any (ties i k) (all_keys samples))
-      ∙ all_keys_occur key_cmp samples k ∙ is
+      ∙ each_once_members (report_total samples config.presentation.sort) (figures p f config column).keys k
+      ∙ (λ i. list_any (ties i k) (figures p f config column).keys)
+      ∙ listed_occur samples k ∙ is
 
 -- the sum over the items that pass
 sum_passing : {X : Type 0} (g : X → ℤ) (test : X → Bool) (xs : List X) → sum_over g (filter test xs) ≡ sum_over (λ x. cond (test x) (g x) (pos 0)) xs
