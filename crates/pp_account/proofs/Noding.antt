@@ -23,7 +23,7 @@ use Rattle.pp_count.specs.Table.{written_key}
 use Rattle.pp_graph.specs.declared.ranking.Ranked.{Ranked}
 use Rattle.pp_graph.specs.KeyRows.{KeyRow, row_at}
 use Rattle.pp_graph.specs.Figures.{figures}
-use Rattle.pp_graph.specs.Sampled.{key_row}
+use Rattle.pp_graph.specs.Sampled.{seen_row}
 use Rattle.pp_graph.specs.Ranks.{sum_of_name, is_heavy_number}
 use Rattle.pp_graph.specs.Sampled.{is_heavy_cum}
 use Rattle.pp_graph.specs.Trim.{all_report_keys, candidate_keys, shown_keys}
@@ -97,7 +97,7 @@ module _ (l : Loaded) (v : Verdicts) (config : Config) (column : Option ℕ) (f 
   abbrev key_at : ℕ → Written
   key_at n = written_key l.profile c.sums.names n
 
-  row_of : (n : ℕ) → n < length c.sums.names → row_at l.profile c.sums n ≡ key_row samples (key_at n)
+  row_of : (n : ℕ) → n < length c.sums.names → row_at l.profile c.sums n ≡ seen_row samples (key_at n)
   row_of n within = row_is l.profile samples c.sums n (counted.sums_are f holds) within
 
   flats_are : (ns : List ℕ) → All (λ n. n < length c.sums.names) ns → int_sum (map (sum_of_name c.sums.flat) ns) ≡ int_sum (map (flat key_cmp samples) (map key_at ns))

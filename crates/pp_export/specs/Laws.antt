@@ -12,7 +12,7 @@ use Rattle.pp_count.specs.Counted.{report_samples}
 use Rattle.pp_count.specs.Seeing.{seen_samples}
 use Rattle.pp_count.specs.Sums.{flat, leads, sum_where}
 use Rattle.pp_graph.specs.Figures.{figures}
-use Rattle.pp_graph.specs.KeyRows.{row_of}
+use Rattle.pp_graph.specs.KeyRows.{key_row}
 use Rattle.pp_graph.specs.Trim.{first_report_keys}
 use Rattle.pp_graph.specs.Trimmed.{int_sum}
 use Rattle.pp_export.specs.Table.{row_line}
@@ -50,7 +50,7 @@ LinesOfKeysAddUp =
 -- the lines of the table report below its first
 abbrev pub table_lines : Profile → Finders → Config → Option ℕ → ℕ → List (List ℕ)
 table_lines p f config column limit =
-    map row_line (map (row_of (figures p f config column))
+    map row_line (map (key_row (figures p f config column))
     (first_report_keys p f config column limit))
 
 -- The lines of the table report under a limit are the first of those without one.

@@ -7,7 +7,7 @@ use Rattle.pp_model.specs.declared.presentation.Presentation.{Presentation}
 use Rattle.pp_model.specs.declared.profile.Profile.{Profile}
 use Rattle.pp_model.specs.Finders.{Finders}
 use Rattle.pp_graph.specs.Figures.{Figures, figures}
-use Rattle.pp_graph.specs.KeyRows.{KeyRow, row_of}
+use Rattle.pp_graph.specs.KeyRows.{KeyRow, key_row}
 use Rattle.pp_graph.specs.Trim.{ordered_keys, shown_keys}
 use Rattle.pp_cells.specs.Cells.{behind_slash, cell, cell_text, last_cell}
 
@@ -31,7 +31,7 @@ table_rows rows = flat_map row_line rows
 abbrev pub table_layout : Figures → Presentation → ℕ → List ℕ → List ℕ
 table_layout g presentation limit unit =
     exact_heading unit
-    ++ table_rows (map (row_of g) (shown_keys limit (ordered_keys g presentation.sort)))
+    ++ table_rows (map (key_row g) (shown_keys limit (ordered_keys g presentation.sort)))
 
 -- The text of the table report with this limit and this unit: the heading, and the rows in report order.
 abbrev pub exact_table : Profile → Finders → Config → Option ℕ → ℕ → List ℕ → List ℕ

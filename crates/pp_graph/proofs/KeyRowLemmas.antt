@@ -13,7 +13,7 @@ use Rattle.pp_count.specs.Counts.{AreSumsOf}
 use Rattle.pp_count.specs.Sums.{Seen, flat, cum}
 use Rattle.pp_count.specs.Table.{no_key, written_key}
 use Rattle.pp_graph.specs.KeyRows.{row_at}
-use Rattle.pp_graph.specs.Sampled.{key_row}
+use Rattle.pp_graph.specs.Sampled.{seen_row}
 
 -- a name is a key of the profile
 pub name_is_key : (p : Profile) (names : List Key) (n : ℕ) (key : Key) → All (IsKeyOf p) names → slice_get names n ≡ Option.Some key → IsKeyOf p key
@@ -32,7 +32,7 @@ at_place g p (k ∷ names) (suc n) d within = at_place g p names n d (omega arit
 
 -- the row of a name is that of its key
 pub row_is : (p : Profile) (samples : List (Seen Written)) (sums : Sums) (n : ℕ) → AreSumsOf p samples sums → n < length sums.names
-    → row_at p sums n ≡ key_row samples (written_key p sums.names n)
+    → row_at p sums n ≡ seen_row samples (written_key p sums.names n)
 row_is p samples sums n are within = λ i. record {
   flat = whole_flat i;
   cum = whole_cum i;
@@ -46,7 +46,7 @@ row_is p samples sums n are within = λ i. record {
 
 -- the rows of names are those of their keys
 pub rows_are : (p : Profile) (samples : List (Seen Written)) (sums : Sums) (order : List ℕ) → AreSumsOf p samples sums → All (λ n. n < length sums.names) order
-    → map (row_at p sums) order ≡ map (key_row samples) (map (written_key p sums.names) order)
+    → map (row_at p sums) order ≡ map (seen_row samples) (map (written_key p sums.names) order)
 rows_are p samples sums [] are below = refl
 rows_are p samples sums (n ∷ order) are below = λ i.
     row_is p samples sums n are (All-head (λ m. m < length sums.names) n order below) i

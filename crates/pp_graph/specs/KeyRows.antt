@@ -28,8 +28,8 @@ running_text flat text before (x ∷ xs) =
     text (before +ℤ flat x) x ++ running_text flat text (before +ℤ flat x) xs
 
 -- the row of a key
-abbrev pub row_of : Figures → Written → KeyRow
-row_of g k = record { flat = g.flat_of k; cum = g.cum_of k; name = name_text k }
+abbrev pub key_row : Figures → Written → KeyRow
+key_row g k = record { flat = g.flat_of k; cum = g.cum_of k; name = name_text k }
 
 -- the row of the name with this number, by the sums that were counted
 abbrev pub row_at : Profile → Sums → ℕ → KeyRow

@@ -55,8 +55,8 @@ module _ {K : Type 0} (order : K → K → Ordering) where
       (has_light_edge (λ k. has order k keys) samples total billionths caller) keys)) keys
 
 -- the row of a key over these samples
-abbrev pub key_row : List (Seen Written) → Written → KeyRow
-key_row samples k = record {
+abbrev pub seen_row : List (Seen Written) → Written → KeyRow
+seen_row samples k = record {
   flat = flat key_cmp samples k;
   cum = cum key_cmp samples k;
   name = name_text k;

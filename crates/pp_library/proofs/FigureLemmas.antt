@@ -22,7 +22,7 @@ use Rattle.pp_count.specs.Seeing.{HoldsFilters}
 use Rattle.pp_count.specs.Sums.{Seen}
 use Rattle.pp_graph.specs.declared.ranking.Ranked.{Ranked}
 use Rattle.pp_graph.specs.KeyRows.{KeyRow, row_at}
-use Rattle.pp_graph.specs.Sampled.{key_row}
+use Rattle.pp_graph.specs.Sampled.{seen_row}
 use Rattle.pp_graph.specs.Trim.{first_report_keys, node_limit}
 use Rattle.pp_graph.specs.Trimmed.{IsWholeRanking}
 use Rattle.pp_graph.proofs.KeyRowLemmas.{rows_are}
@@ -57,7 +57,7 @@ lines_printed : (p : Profile) (f : Finders) (config : Config) (column : Option �
     → exact_table p f config column (node_limit config.presentation.nodecount 0) (unit_text p column) ≡ figures_text (figures_by p f config column)
 lines_printed p f config column =
     ap (λ lines. exact_heading (unit_text p column) ++ lines)
-    (lines_map (key_row (report_samples p f config column)) (first_report_keys p f config column (node_limit config.presentation.nodecount 0)))
+    (lines_map (seen_row (report_samples p f config column)) (first_report_keys p f config column (node_limit config.presentation.nodecount 0)))
 
 scripts_grouped : {A B C : Type 0} (s : Script A) (f : A → Script B) (g : B → Script C) → scripts.◌>>=◌ (scripts.◌>>=◌ s f) g ≡ scripts.◌>>=◌ s (λ x. scripts.◌>>=◌ (f x) g)
 unfolding scripts.◌>>=◌
@@ -84,13 +84,13 @@ tables_print_figures finds l base config =
 -- The rows of a ranking are those of its keys.
 pub ranked_figures : (l : Loaded) (v : Verdicts) (config : Config) (column : Option ℕ) (limit : ℕ) (c : Counted) (t : Ranked) (f : Finders)
     → IsCountedOf l v config column c → IsWholeRanking l v config column limit c t → HoldsFilters l v config.filtering f
-    → map (λ n. figure_of (row_at l.profile c.sums n)) t.order ≡ map (λ k. figure_of (key_row (report_samples l.profile f config column) k)) (first_report_keys l.profile f config column limit)
+    → map (λ n. figure_of (row_at l.profile c.sums n)) t.order ≡ map (λ k. figure_of (seen_row (report_samples l.profile f config column) k)) (first_report_keys l.profile f config column limit)
 ranked_figures l v config column limit c t f counted ranked holds =
     let samples : List (Seen Written) = report_samples l.profile f config column in
     figures_map (row_at l.profile c.sums) t.order
     ∙ ap (map figure_of) (rows_are l.profile samples c.sums t.order (counted.sums_are f holds) ranked.below)
-    ∙ ap (λ keys. map figure_of (map (key_row samples) keys)) (ranked.keys f holds)
-    ∙ sym (figures_map (key_row samples) (first_report_keys l.profile f config column limit))
+    ∙ ap (λ keys. map figure_of (map (seen_row samples) keys)) (ranked.keys f holds)
+    ∙ sym (figures_map (seen_row samples) (first_report_keys l.profile f config column limit))
 
 -- The table of what was counted is that of the definition.
 pub figures_are : {E : Type 0} (r : Result FigureTable E) (p q : Profile) (column : Option ℕ) (n m : ℕ) (rows others : List Figure) → p ≡ q → n ≡ m → rows ≡ others

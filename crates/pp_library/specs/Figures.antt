@@ -14,7 +14,7 @@ use Rattle.pp_pattern.specs.Report.{Finds}
 use Rattle.pp_count.specs.Counted.{report_samples}
 use Rattle.pp_count.specs.Counts.{total_of}
 use Rattle.pp_graph.specs.Figures.{figures}
-use Rattle.pp_graph.specs.KeyRows.{KeyRow, row_of}
+use Rattle.pp_graph.specs.KeyRows.{KeyRow, key_row}
 use Rattle.pp_graph.specs.Trim.{first_report_keys, node_limit}
 use Rattle.pp_export.specs.Table.{exact_heading, row_line}
 use Rattle.pp_report.specs.declared.refusal.ReportRefusal.{ReportRefusal}
@@ -58,7 +58,7 @@ without_edges figures = record {
 abbrev pub figures_by : Profile → Finders → Config → Option ℕ → FigureTable
 figures_by p f config column =
     table_with p column (total_of p f config column)
-    (map (λ k. figure_of (row_of (figures p f config column) k))
+    (map (λ k. figure_of (key_row (figures p f config column) k))
     (first_report_keys p f config column (node_limit config.presentation.nodecount 0)))
 
 -- the figures of the profile that a table is made of

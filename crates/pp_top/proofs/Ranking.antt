@@ -17,7 +17,7 @@ use Rattle.pp_graph.specs.declared.ranking.Ranked.{Ranked}
 use Rattle.pp_graph.specs.Trim.{report_keys}
 use Rattle.pp_graph.specs.Trimmed.{IsRankedOf}
 use Rattle.pp_graph.specs.KeyRows.{row_at}
-use Rattle.pp_graph.specs.Sampled.{key_row}
+use Rattle.pp_graph.specs.Sampled.{seen_row}
 use Rattle.pp_top.specs.Top.{top_rows, top_summary, ranked_text, top_text}
 use Rattle.pp_graph.proofs.KeyRowLemmas.{rows_are}
 
@@ -27,8 +27,8 @@ pub ranked_is : (l : Loaded) (v : Verdicts) (config : Config) (column : Option �
 ranked_is l v config column limit f c t h counted ranked holds =
     let samples : List (Seen Written) = report_samples l.profile f config column in
     let keys : List Written = report_keys l.profile f config column limit in
-    let rows : map (row_at l.profile c.sums) t.order ≡ map (key_row samples) keys =
-    rows_are l.profile samples c.sums t.order (counted.sums_are f holds) ranked.below ∙ ap (map (key_row samples)) (ranked.keys f holds) in
+    let rows : map (row_at l.profile c.sums) t.order ≡ map (seen_row samples) keys =
+    rows_are l.profile samples c.sums t.order (counted.sums_are f holds) ranked.below ∙ ap (map (seen_row samples)) (ranked.keys f holds) in
     let count : length t.order ≡ length keys =
     sym (length-map t.order (written_key l.profile c.sums.names)) ∙ ap length (ranked.keys f holds) in
     λ i.

@@ -12,7 +12,7 @@ use Rattle.pp_count.specs.declared.sums.Sums.{Sums}
 use Rattle.pp_graph.specs.declared.ranking.Ranked.{Ranked}
 use Rattle.pp_graph.specs.Figures.{Figures, figures}
 use Rattle.pp_graph.specs.Trim.{heavy_keys, shown_keys, light_key_count}
-use Rattle.pp_graph.specs.KeyRows.{KeyRow, running_text, row_of, row_at, flat_sum}
+use Rattle.pp_graph.specs.KeyRows.{KeyRow, running_text, key_row, row_at, flat_sum}
 
 -- the line of a row, where the flats up to it have this sum
 abbrev pub top_row : Shown → ℕ → ℤ → KeyRow → List ℕ
@@ -43,7 +43,7 @@ top_layout g presentation limit h =
     facts_text h
     ++ top_summary h (flat_sum g shown) (light_key_count g presentation) (length shown)
     (length candidates)
-    ++ heading ++ top_rows h.unit h.total (pos 0) (map (row_of g) shown)
+    ++ heading ++ top_rows h.unit h.total (pos 0) (map (key_row g) shown)
 
 -- The text of the top report with this limit: its head, the heading, and the rows.
 abbrev pub top_text : Profile → Finders → Config → Option ℕ → ℕ → Facts → List ℕ

@@ -32,7 +32,7 @@ use Rattle.pp_graph.specs.Links.{EdgeLinks, live_edges}
 use Rattle.pp_graph.specs.Trim.{all_report_keys}
 use Rattle.pp_graph.specs.Trimmed.{IsWholeRanking}
 use Rattle.pp_graph.specs.KeyRows.{CanShow}
-use Rattle.pp_graph.specs.Sampled.{key_row}
+use Rattle.pp_graph.specs.Sampled.{seen_row}
 use Rattle.pp_graph.specs.Neighbours.{neighbour_list}
 use Rattle.pp_graph.proofs.Whole.{light-none}
 use Rattle.pp_tree.specs.Nodes.{Node, table_heading, tree_nodes_text}
@@ -206,11 +206,11 @@ module _ (l : Loaded) (v : Verdicts) (config : Config) (column : Option ℕ) (c 
       ∙ filtered t.order whole.below ∙ ap (filter test) (whole.keys f holds) in
       let all : Pairs = all_pairs l.profile f config column in
       let about : Pairs = pairs_about test all in
-      let node : Written → Node = λ k. record { row = key_row samples k; callers = map near_of (callers_in about k); callees = map near_of (callees_in about k) } in
+      let node : Written → Node = λ k. record { row = seen_row samples k; callers = map near_of (callers_in about k); callees = map near_of (callees_in about k) } in
       let nodes : map (node_at l.profile c.sums about) shown ≡ map (node_of (figures l.profile f config column) any_key 0) (filter test (all_report_keys l.profile f config column)) =
       nodes_are l.profile samples c.sums about shown (counted.sums_are f holds) below ∙ ap (map node) keys
       ∙ map_alike test node (node_of (figures l.profile f config column) any_key 0)
-      (λ k is i. record { row = key_row samples k; callers = map near_of (callers_about test all k is i); callees = map near_of (callees_about test all k is i) })
+      (λ k is i. record { row = seen_row samples k; callers = map near_of (callers_about test all k is i); callees = map near_of (callees_about test all k is i) })
       (all_report_keys l.profile f config column) in
       λ i. facts_text h ++ showing_line h.unit h.total (whole.shown_flat f holds i) ++ table_heading ++ tree_nodes_text h.unit h.total (pos 0) (nodes i) where
         filtered : (order : List ℕ) → All (λ n. n < length c.sums.names) order

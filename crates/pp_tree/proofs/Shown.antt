@@ -25,7 +25,7 @@ use Rattle.pp_graph.specs.declared.trimming.Trimmed.{Trimmed}
 use Rattle.pp_graph.specs.Figures.{figures}
 use Rattle.pp_graph.specs.Trim.{is_heavy_pair, report_keys, is_report_key}
 use Rattle.pp_graph.specs.Trimmed.{IsTrimmedOf}
-use Rattle.pp_graph.specs.Sampled.{key_row}
+use Rattle.pp_graph.specs.Sampled.{seen_row}
 use Rattle.pp_graph.proofs.KeyRowLemmas.{row_is}
 use Rattle.pp_graph.proofs.Listed.{each_once_members}
 use Rattle.pp_tree.specs.Nodes.{table_heading, tree_nodes_text}
@@ -51,7 +51,7 @@ keys_of_names p samples sums are k =
 -- the node of a name, where its key's callers and callees are these
 pub nodes_are : (p : Profile) (samples : List (Seen Written)) (sums : Sums) (pairs : Pairs) (order : List ℕ) → AreSumsOf p samples sums → All (λ n. n < length sums.names) order
     → map (node_at p sums pairs) order
-    ≡ map (λ k. record { row = key_row samples k; callers = map near_of (callers_in pairs k); callees = map near_of (callees_in pairs k) }) (map (written_key p sums.names) order)
+    ≡ map (λ k. record { row = seen_row samples k; callers = map near_of (callers_in pairs k); callees = map near_of (callees_in pairs k) }) (map (written_key p sums.names) order)
 nodes_are p samples sums pairs [] are below = refl
 nodes_are p samples sums pairs (n ∷ order) are below = λ i.
     record {

@@ -14,7 +14,7 @@ use Rattle.pp_count.specs.Sums.{has}
 use Rattle.pp_graph.specs.Figures.{Figures, figures}
 use Rattle.pp_graph.specs.Neighbours.{Neighbour, callers_of, callees_of}
 use Rattle.pp_graph.specs.Trim.{heavy_keys, shown_keys, light_key_count, light_pair_count}
-use Rattle.pp_graph.specs.KeyRows.{row_of, flat_sum}
+use Rattle.pp_graph.specs.KeyRows.{key_row, flat_sum}
 use Rattle.pp_tree.specs.Nodes.{Near, Node, table_heading, tree_nodes_text}
 
 -- the other end of an edge, as it is printed
@@ -24,7 +24,7 @@ near_of neighbour = record { value = neighbour.value; name = name_text neighbour
 -- a key with its callers and callees over the keys that are kept, by edges of at least this fraction of the total
 abbrev pub node_of : Figures → (Written → Bool) → ℕ → Written → Node
 node_of g kept billionths k = record {
-  row = row_of g k;
+  row = key_row g k;
   callers = map near_of (callers_of g kept billionths k);
   callees = map near_of (callees_of g kept billionths k);
 }

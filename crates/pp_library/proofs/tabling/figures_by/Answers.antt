@@ -5,7 +5,7 @@ use Rattle.pp_model.specs.FrameTexts.{Written}
 use Rattle.pp_count.specs.Counted.{report_samples}
 use Rattle.pp_count.specs.Counts.{total_of}
 use Rattle.pp_graph.specs.KeyRows.{row_at}
-use Rattle.pp_graph.specs.Sampled.{key_row}
+use Rattle.pp_graph.specs.Sampled.{seen_row}
 use Rattle.pp_graph.specs.Trimmed.{written_order}
 use Rattle.pp_graph.specs.Trim.{first_report_keys, node_limit}
 use Rattle.pp_library.specs.Edges.{AreRowEdges}
@@ -46,7 +46,7 @@ returns-clause-is g c = λ f holds.
     (c.in_ok-rows.ensures
     ∙ ap (map (λ n. figure_of (row_at p s.counted.now.sums n))) c.as_slice.ensures
     ∙ ranked_figures s.l.now s.v.now config s.column c.limit_of-limit.result s.counted.now c.in_ok-ranked.ranked f s.counts ranked holds
-    ∙ (λ i. map (λ k. figure_of (key_row (report_samples p f config s.column) k)) (first_report_keys p f config s.column (c.limit_of-limit.ensures i))))
+    ∙ (λ i. map (λ k. figure_of (seen_row (report_samples p f config s.column) k)) (first_report_keys p f config s.column (c.limit_of-limit.ensures i))))
     c.with_rows.ensures.is
 
 -- the edges are those between them
