@@ -17,11 +17,10 @@ use Rattle.pp_model.specs.Finders.{Finders}
 use Rattle.pp_model.specs.FrameTexts.{Written}
 use Rattle.pp_grain.specs.Keys.{key_cmp, key_texts, kept_by, with_object, is_nameless}
 use Rattle.pp_grain.proofs.CallerLemmas.{key_cmp_total}
-use Rattle.pp_count.specs.Sums.{Seen, renamed, sum_where, has, leads, occurs, flat, cum, all_keys}
+use Rattle.pp_count.specs.Sums.{Seen, renamed, sum_where, has, leads, occurs, flat, cum}
 use Rattle.pp_count.specs.Seeing.{seen_samples, framed_samples}
 use Rattle.pp_count.specs.Counted.{report_samples, report_frames}
 use Rattle.pp_count.proofs.CallerLemmas.{key_of_written, keyed_frames, keyed_report}
-use Rattle.pp_count.proofs.Renaming.{all_keys_occur}
 use Rattle.pp_count.proofs.Ties.{key_decides}
 use Rattle.pp_graph.specs.Figures.{figures}
 use Rattle.pp_graph.specs.Sampled.{report_order}
